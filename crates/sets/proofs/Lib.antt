@@ -1,0 +1,4 @@
+pub mod Members
+pub mod Ascending
+pub mod Successor
+pub mod Listing

@@ -1,0 +1,51 @@
+-- Sets of decisions. A decision is a number from 0 to 63, and a set is a number whose bit d says that decision d is in it.
+use mathlib.Core.Path.{_≡_}
+use mathlib.Core.Bool.{Bool, true, false}
+use Prim.Native.Nat.{ℕ, _/_, _%_, _^_}
+use lib.Bits.{bitAnd, bitOr, bitXor}
+use lib.Count.{ones}
+use lib.Dec.{eqb}
+
+infix 50 _∈_
+infix 50 _∉_
+infix 50 _⊆_
+infixl 60 _∩_
+infixl 60 _∪_
+infixl 60 _∖_
+
+-- whether bit d of s is set
+unfoldable pub has : ℕ → ℕ → Bool
+has s d = eqb (s / 2 ^ d % 2) 1
+
+-- decision d is in s; it is not
+abbrev pub _∈_ : ℕ → ℕ → Type 0
+d ∈ s = has s d ≡ true
+
+abbrev pub _∉_ : ℕ → ℕ → Type 0
+d ∉ s = has s d ≡ false
+
+-- each decision of s is in t
+abbrev pub _⊆_ : ℕ → ℕ → Type 0
+s ⊆ t = (d : ℕ) → d ∈ s → d ∈ t
+
+-- the decisions in both, in either, in the first alone
+abbrev pub _∩_ : ℕ → ℕ → ℕ
+s ∩ t = bitAnd s t
+
+abbrev pub _∪_ : ℕ → ℕ → ℕ
+s ∪ t = bitOr s t
+
+abbrev pub _∖_ : ℕ → ℕ → ℕ
+s ∖ t = bitXor s (bitAnd s t)
+
+-- the set of decision d alone
+abbrev pub single : ℕ → ℕ
+single d = 2 ^ d
+
+-- how many decisions a set has
+abbrev pub size : ℕ → ℕ
+size s = ones s
+
+-- s lies between two sets: it has each decision of the lower one, and none that the upper one lacks
+abbrev pub Between : ℕ → ℕ → ℕ → Type 0
+Between lower upper s = (lower ⊆ s) × (s ⊆ upper)

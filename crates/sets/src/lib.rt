@@ -1,0 +1,6 @@
+// Sets of decisions: the vocabulary in which every statement of the repository is written.
+pub mod decision;
+pub mod laws;
+pub mod set;
+pub mod span;
+pub mod walk;
