@@ -3,7 +3,7 @@ use mathlib.Core.Path.{_≡_, refl, sym, ap, ap₂, subst, _∙_}
 use mathlib.Core.Bool.{Bool, true, false, not, cond, _&&_, _||_}
 use mathlib.Core.List.{List, [], _∷_, _++_, map}
 use mathlib.Core.Logic.{_⊎_, inl, inr, ⊎-elim}
-use Prim.Native.Nat.{ℕ, zero, suc, zero-le, _+_, _-_, _*_, _/_, _%_, _^_, _<_, _≤_}
+use Prim.Native.Nat.{ℕ, zero, suc, zero-le, suc-le-suc, _+_, _-_, _*_, _/_, _%_, _^_, _<_, _≤_}
 use native.Mathlib.Nat.{not-suc-le-zero, le-of-suc-le-suc, pow-suc, mod-lt, mod-eq-of-lt, zero-lt-suc, eq-or-lt-of-le, add-comm, add-zero, zero-add, mul-le-mul-right}
 use native.Mathlib.Numerals.{one-add}
 use native.Mathlib.Omega.{arith}
@@ -16,13 +16,13 @@ use lib.Pow.{pow-pos, pow-mono}
 use Rattle.std.specs.shelf.Lists.{All, kept-by}
 use Rattle.std.proofs.shelf.Bits.{shr-split, mod-pow-add}
 use Rattle.std.proofs.shelf.Tests.{cases-bool, cases-eq, both-ways, eqb-true, eqb-false, eq-eqb, ne-eqb, leb-true, le-leb, or-cases, or-left, or-right, cases-lt}
-use Rattle.sets.specs.Sets.{has, _∈_, _∉_, _⊆_, _∩_, _∪_, _∖_, single, size, Between}
+use Rattle.sets.specs.Sets.{has, _∈_, _∉_, _⊆_, _∩_, _∪_, _∖_, single, size, Lowest, Between}
 use Rattle.sets.specs.Lists.{member, Ascends}
 use Rattle.sets.specs.Walks.{decisions-below, decisions, between-below, sets-between, sets-from}
 use Rattle.sets.specs.Laws.{Decisions-listed, Between-listed}
 use Rattle.sets.proofs.Members.{has-zero, has-suc, has-none, has-high, has-or, has-minus, has-single, member-below, sub-lt, sub-le, sub-refl, and-second, or-second, or-least}
 use Rattle.sets.proofs.Ascending.{member-head, member-tail, member-cases, member-none, member-append-left, member-append-right, member-append, member-map, member-of-map, member-kept, member-of-kept, all-of-members, Sorted, ascends-of, sorted-append, sorted-map, sorted-kept, sorted-ext}
-use Rattle.sets.proofs.Successor.{after, Next, next-after}
+use Rattle.sets.proofs.Successor.{after, Next, next-after, half-lt}
 
 -- ---- the digit above n others
 
@@ -141,9 +141,26 @@ decisions-listed = record {
 
 -- ---- the lowest decision
 
--- d is in the set, and no decision of the set is lower
-abbrev pub Lowest : ℕ → ℕ → Type 0
-Lowest d s = (d ∈ s) × ((e : ℕ) → e ∈ s → d ≤ e)
+-- an even set has no decision 0, and the others stand one place lower in its half
+higher : (s t : ℕ) → s % 2 ≡ 0 → ((d : ℕ) → d ∈ s / 2 → t ≤ d) → (e : ℕ) → e ∈ s → suc t ≤ e
+higher s t z f zero m = absurd (both-ways (has s 0) (has-zero s ∙ ap (λ (x : ℕ). eqb x 1) z) m)
+higher s t z f (suc e) m = suc-le-suc (f e (sym (has-suc s e) ∙ m))
+
+-- as the machine counts the zeros below it
+pub lowest-trailing : (k s : ℕ) → s < 2 ^ k → ((trailingZeros k s ≡ k) × (s ≡ 0)) ⊎ ((trailingZeros k s < k) × Lowest (trailingZeros k s) s)
+unfolding trailingZeros
+lowest-trailing zero s h = inl (refl, lt-one h)
+lowest-trailing (suc k) s h = by-digit (s % 2) refl (mod-lt s (zero-lt-suc 1)) (lowest-trailing k (s / 2) (half-lt k s h))
+  where
+    by-digit : (x : ℕ) → s % 2 ≡ x → x < 2
+        → ((trailingZeros k (s / 2) ≡ k) × (s / 2 ≡ 0)) ⊎ ((trailingZeros k (s / 2) < k) × Lowest (trailingZeros k (s / 2)) (s / 2))
+        → ((under x (trailingZeros k (s / 2)) ≡ suc k) × (s ≡ 0)) ⊎ ((under x (trailingZeros k (s / 2)) < suc k) × Lowest (under x (trailingZeros k (s / 2))) s)
+    by-digit zero e l c = ⊎-elim
+      (λ (p : (trailingZeros k (s / 2) ≡ k) × (s / 2 ≡ 0)). let q = p .1 in inl (ap suc (p .0), omega arith))
+      (λ (p : (trailingZeros k (s / 2) < k) × Lowest (trailingZeros k (s / 2)) (s / 2)).
+        inr (suc-le-suc (p .0), (has-suc s (trailingZeros k (s / 2)) ∙ p .1 .0, higher s (trailingZeros k (s / 2)) e (p .1 .1)))) c
+    by-digit (suc zero) e l c = inr (zero-lt-suc k, (has-zero s ∙ eq-eqb (s % 2) 1 e, λ d m. zero-le))
+    by-digit (suc (suc x)) e l c = absurd (not-suc-le-zero (le-of-suc-le-suc (le-of-suc-le-suc l)))
 
 pub lowest-first : (s d : ℕ) → s < 2 ^ 64 → Lowest d s → decisions s ≡ d ∷ decisions (s ∖ single d)
 lowest-first s d h low =
@@ -174,6 +191,12 @@ lowest-first s d h low =
     keep e m ne =
         has-minus s (single d) e ∙ ap (λ (b : Bool). has s e && not b) (has-single d e ∙ ne-eqb e d (λ q. ne (sym q)))
         ∙ ap (λ (b : Bool). b && true) m
+
+pub decisions-none : (s : ℕ) → s ≡ 0 → decisions s ≡ []
+decisions-none s e =
+    ap decisions e
+    ∙ sorted-ext (decisions 0) [] (sorted-decisions 64 0) tt
+        (λ d m. absurd (both-ways (has 0 d) (has-none d) (of-decisions 64 0 d m .1))) (λ d m. member-none d m)
 
 -- ---- the sets between two sets
 

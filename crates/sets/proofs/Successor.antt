@@ -15,7 +15,7 @@ use Rattle.sets.proofs.Members.{has-zero, has-suc, has-none, has-high, has-and
 
 -- ---- the complement in n digits
 
-half-lt : (n s : ℕ) → s < 2 ^ suc n → s / 2 < 2 ^ n
+pub half-lt : (n s : ℕ) → s < 2 ^ suc n → s / 2 < 2 ^ n
 half-lt n s h = div-lt-iff-lt-mul (zero-lt-suc 1) .1 (rw pow-suc at h)
 
 flip-low : (x b : ℕ) → b < x * 2 → eqb ((x * 2 - 1 - b) % 2) 1 ≡ not (eqb (b % 2) 1)

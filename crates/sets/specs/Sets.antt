@@ -1,7 +1,7 @@
 -- Sets of decisions. A decision is a number from 0 to 63, and a set is a number whose bit d says that decision d is in it.
 use mathlib.Core.Path.{_≡_}
 use mathlib.Core.Bool.{Bool, true, false}
-use Prim.Native.Nat.{ℕ, _/_, _%_, _^_}
+use Prim.Native.Nat.{ℕ, _/_, _%_, _^_, _≤_}
 use lib.Bits.{bitAnd, bitOr, bitXor}
 use lib.Count.{ones}
 use lib.Dec.{eqb}
@@ -45,6 +45,10 @@ single d = 2 ^ d
 -- how many decisions a set has
 abbrev pub size : ℕ → ℕ
 size s = ones s
+
+-- d is in s, and no decision of s is lower
+abbrev pub Lowest : ℕ → ℕ → Type 0
+Lowest d s = (d ∈ s) × ((e : ℕ) → e ∈ s → d ≤ e)
 
 -- s lies between two sets: it has each decision of the lower one, and none that the upper one lacks
 abbrev pub Between : ℕ → ℕ → ℕ → Type 0
