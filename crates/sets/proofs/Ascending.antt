@@ -167,3 +167,14 @@ sorted-ext (x ∷ xs) (y ∷ ys) s t f g =
       (λ d. ⊎-elim
         (λ (l : x < y). ⊎-elim (λ e. sym e) (λ m. let k = all-member (λ w. y < w) ys (t .0) x m in absurd (omega arith)) (member-cases x y ys (f x (member-head x xs))))
         (λ (l : y < x). ⊎-elim (λ e. e) (λ m. let k = all-member (λ w. x < w) xs (s .0) y m in absurd (omega arith)) (member-cases y x xs (g y (member-head y ys)))) d) c
+
+-- ---- numbers at two places
+
+pub ascends-apart : (xs : List ℕ) → Ascends xs → (i j : ℕ) → i < j → j < length xs → getD xs i 0 < getD xs j 0
+ascends-apart xs h i zero l k = absurd (not-suc-le-zero l)
+ascends-apart xs h i (suc j) l k =
+    let step : getD xs j 0 < getD xs (suc j) 0 = subst (λ (n : ℕ). getD xs j 0 < getD xs n 0) (add-one j) (h j (omega arith)) in
+    ⊎-elim
+      (λ (e : i ≡ j). subst (λ (n : ℕ). getD xs n 0 < getD xs (suc j) 0) (sym e) step)
+      (λ d. ⊎-elim (λ (q : i < j). let r = ascends-apart xs h i j q (omega arith) in omega arith) (λ q. absurd (omega arith)) d)
+      (cases-order i j)

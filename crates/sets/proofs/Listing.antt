@@ -21,7 +21,7 @@ use Rattle.sets.specs.Lists.{member, Ascends}
 use Rattle.sets.specs.Walks.{decisions-below, decisions, between-below, sets-between, sets-from}
 use Rattle.sets.specs.Laws.{Decisions-listed, Between-listed}
 use Rattle.sets.proofs.Members.{has-zero, has-suc, has-none, has-high, has-or, has-minus, has-single, member-below, sub-lt, sub-le, sub-refl, and-second, or-second, or-least}
-use Rattle.sets.proofs.Ascending.{member-head, member-tail, member-cases, member-none, member-append-left, member-append-right, member-append, member-map, member-of-map, member-kept, member-of-kept, all-of-members, Sorted, ascends-of, sorted-append, sorted-map, sorted-kept, sorted-ext}
+use Rattle.sets.proofs.Ascending.{member-head, member-tail, member-cases, member-none, member-append-left, member-append-right, member-append, member-map, member-of-map, member-kept, member-of-kept, all-member, all-of-members, Sorted, ascends-of, sorted-append, sorted-map, sorted-kept, sorted-ext}
 use Rattle.sets.proofs.Successor.{after, Next, next-after, half-lt}
 
 -- ---- the digit above n others
@@ -389,6 +389,19 @@ module _ (lo up s : ℕ) (nested : lo ⊆ up) (fits : up < 2 ^ 64) (inside : Bet
           (λ (q : s ≡ z). subst (λ (y : ℕ). member y (sets-from s lo up) ≡ true) q (to-from s s inside (omega arith)))
           (λ q. member-none z q)
           (member-cases z s [] m))
+
+  -- and the other way round: what the list says of the next set, and of the last one
+  pub next-of-list : (x : ℕ) → Between lo up x → sets-from s lo up ≡ s ∷ sets-from x lo up → Next lo up s x
+  next-of-list x b e =
+      let sorted : Sorted (s ∷ sets-from x lo up) = subst Sorted e (sorted-from s) in
+      ( all-member (λ z. s < z) (sets-from x lo up) (sorted .0) x (to-from x x b (omega arith)),
+        (λ f g l. ⊎-elim (λ (q : s ≡ f). absurd (omega arith)) (λ m. in-from x f m .1)
+          (member-cases f s (sets-from x lo up) (subst (λ (ys : List ℕ). member f ys ≡ true) e (to-from s f g (omega arith))))) )
+
+  pub last-of-list : sets-from s lo up ≡ s ∷ [] → (f : ℕ) → Between lo up f → s ≤ f → f ≡ s
+  last-of-list e f g l =
+      ⊎-elim (λ (q : s ≡ f). sym q) (λ m. member-none f m)
+        (member-cases f s [] (subst (λ (ys : List ℕ). member f ys ≡ true) e (to-from s f g l)))
 
   -- the code's step
   pub after-inside : Between lo up (after 64 lo up s)
