@@ -3,7 +3,7 @@ use crate::bank::Bank;
 use crate::standing::Standing;
 use sets::span::Span;
 
-// How condition k stands, given the decided sets' span.
+// How condition k stands where the lower set of the span is decided and the upper one is all that may still be.
 pub fn standing_of<B: Bank>(bank: &B, k: u16, span: Span) -> Standing
     ensures { λ r. ⌜ Stands (meaning (now (bank .entry))) k (span .lower) (span .upper) r ⌝ }
 {

@@ -10,10 +10,9 @@ use Rattle.std.specs.Orderings.{Decides}
 use Rattle.std.proofs.shelf.Tests.{both-ways, cases-bool, cases-lt, cases-order}
 use Rattle.sets.specs.Lists.{member, Ascends}
 use Rattle.sets.specs.Sets.{_⊆_, Between}
-use Rattle.sets.specs.Walks.{sets-from}
+use Rattle.sets.specs.Walks.{sets-from, Next}
 use Rattle.sets.proofs.Members.{sub-le}
 use Rattle.sets.proofs.Ascending.{member-place, member-at, ascends-apart}
-use Rattle.sets.proofs.Successor.{Next}
 use Rattle.sets.proofs.Listing.{next-of-list, last-of-list}
 use Rattle.listed.specs.Tables.{All-in, None-in}
 

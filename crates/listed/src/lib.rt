@@ -1,5 +1,5 @@
 // The listed bank: conditions whose families stand as lists of sets in tables that the caller lends.
 pub mod bank;
 pub mod condition;
-pub mod row;
-pub mod tables;
+mod row;
+mod tables;

@@ -6,7 +6,7 @@ use sets::span::Span;
 use sets::walk::Walk;
 
 // Whether every set of the span stands in an ascending row: row and walk go up together.
-pub fn holds_all(row: &[Set], span: Span) -> bool
+pub(crate) fn holds_all(row: &[Set], span: Span) -> bool
     requires { ⌜ Ascends (now row) ⌝ }
     ensures { λ r. ⌜ Decides r (All-in (now (row .entry)) (span .lower) (span .upper)) ⌝ }
 {
@@ -27,7 +27,7 @@ pub fn holds_all(row: &[Set], span: Span) -> bool
 }
 
 // Whether no set of the span stands in the row.
-pub fn holds_none(row: &[Set], span: Span) -> bool
+pub(crate) fn holds_none(row: &[Set], span: Span) -> bool
     ensures { λ r. ⌜ Decides r (None-in (now (row .entry)) (span .lower) (span .upper)) ⌝ }
 {
     for set in row {

@@ -62,7 +62,7 @@ fn sound(c: &ListedCondition, sets: &[Set]) -> bool
 }
 
 // Whether the tables are valid, read whole.
-pub fn valid(conditions: &[ListedCondition], sets: &[Set]) -> bool
+pub(crate) fn valid(conditions: &[ListedCondition], sets: &[Set]) -> bool
     ensures { λ r. ⌜ Decides r (Valid (now (conditions .entry)) (now (sets .entry))) ⌝ }
 {
     if conditions.len() > MAX_CONDITIONS {

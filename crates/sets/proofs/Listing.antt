@@ -18,11 +18,11 @@ use Rattle.std.proofs.shelf.Bits.{shr-split, mod-pow-add}
 use Rattle.std.proofs.shelf.Tests.{cases-bool, cases-eq, both-ways, eqb-true, eqb-false, eq-eqb, ne-eqb, leb-true, le-leb, or-cases, or-left, or-right, cases-lt}
 use Rattle.sets.specs.Sets.{has, _∈_, _∉_, _⊆_, _∩_, _∪_, _∖_, single, size, Lowest, Between}
 use Rattle.sets.specs.Lists.{member, Ascends}
-use Rattle.sets.specs.Walks.{decisions-below, decisions, between-below, sets-between, sets-from}
+use Rattle.sets.specs.Walks.{decisions-below, decisions, between-below, sets-between, sets-from, Next}
 use Rattle.sets.specs.Laws.{Decisions-listed, Between-listed}
 use Rattle.sets.proofs.Members.{has-zero, has-suc, has-none, has-high, has-or, has-minus, has-single, member-below, sub-lt, sub-le, sub-refl, and-second, or-second, or-least}
 use Rattle.sets.proofs.Ascending.{member-head, member-tail, member-cases, member-none, member-append-left, member-append-right, member-append, member-map, member-of-map, member-kept, member-of-kept, all-member, all-of-members, Sorted, ascends-of, sorted-append, sorted-map, sorted-kept, sorted-ext}
-use Rattle.sets.proofs.Successor.{after, Next, next-after, half-lt}
+use Rattle.sets.proofs.Successor.{after, next-after, half-lt}
 
 -- ---- the digit above n others
 

@@ -11,6 +11,7 @@ use lib.Dec.{eqb}
 use lib.Pow.{pow-pos}
 use Rattle.std.proofs.shelf.Tests.{cases-bool, both-ways, eq-eqb, ne-eqb, eqb-true, eqb-false, cases-eq, cases-lt, and-parts}
 use Rattle.sets.specs.Sets.{has, _∈_, _∉_, _⊆_, _∩_, _∪_, _∖_, Between}
+use Rattle.sets.specs.Walks.{Next}
 use Rattle.sets.proofs.Members.{has-zero, has-suc, has-none, has-high, has-and, has-minus, ext, sub-and, sub-antisym, sub-le, sub-lt, or-first, or-second, or-least, sub-refl}
 
 -- ---- the complement in n digits
@@ -95,10 +96,6 @@ low-sub s t h = ⊎-elim
 
 or-sub : (s t : ℕ) → s ⊆ t → bitOr t s ≡ t
 or-sub s t h = sub-antisym (bitOr t s) t (or-least t s t (sub-refl t) h) (or-first t s)
-
--- above s, and not above any other set above s that lies between
-abbrev pub Next : ℕ → ℕ → ℕ → ℕ → Type 0
-Next lower upper s x = (s < x) × ((f : ℕ) → Between lower upper f → s < f → x ≤ f)
 
 -- a decision at the lowest place that s may take up: the successor is one more
 next-low : (n lo up s : ℕ) → lo ⊆ s → s ⊆ up → up < 2 ^ suc n → s % 2 ≡ 0 → up % 2 ≡ 1 → after (suc n) lo up s ≡ suc s

@@ -2,10 +2,10 @@
 use mathlib.Core.Path.{_≡_}
 use mathlib.Core.Bool.{Bool, true, false, cond}
 use mathlib.Core.List.{List, [], _∷_, _++_, map}
-use Prim.Native.Nat.{ℕ, zero, suc, _+_, _^_}
+use Prim.Native.Nat.{ℕ, zero, suc, _+_, _^_, _<_, _≤_}
 use lib.Dec.{leb}
 use Rattle.std.specs.shelf.Lists.{kept-by}
-use Rattle.sets.specs.Sets.{has}
+use Rattle.sets.specs.Sets.{has, Between}
 
 -- the decisions of s below n, lowest first
 unfoldable pub decisions-below : ℕ → ℕ → List ℕ
@@ -29,3 +29,7 @@ sets-between lower upper = between-below 64 lower upper
 -- those of them that are not below a first one
 abbrev pub sets-from : ℕ → ℕ → ℕ → List ℕ
 sets-from first lower upper = kept-by (λ s. leb first s) (sets-between lower upper)
+
+-- x is the next set between two sets after s: above s, and no other one above s is lower
+abbrev pub Next : ℕ → ℕ → ℕ → ℕ → Type 0
+Next lower upper s x = (s < x) × ((f : ℕ) → Between lower upper f → s < f → x ≤ f)

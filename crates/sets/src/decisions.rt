@@ -1,24 +1,26 @@
 ghost use mathlib.Core.Path.{_≡_};
 ghost use mathlib.Core.List.{[], _∷_};
+ghost use lib.Count.{trailingZeros};
 ghost use lib.ListN.{length};
 ghost use Rattle.std.specs.Options.{Cases};
-ghost use Rattle.sets.specs.Sets.{Lowest, _∖_, single};
+ghost use Rattle.sets.specs.Sets.{Lowest};
 ghost use Rattle.sets.specs.Walks.{decisions};
 use crate::decision::Decision;
 use crate::set::Set;
+use crate::set::without;
+
+// How many places stand empty below the lowest decision: all 64 where there is none.
+fn zeros_below(set: Set) -> u8
+    ensures { λ r. ⌜ r ≡ trailingZeros 64 set ⌝ }
+{
+    set.trailing_zeros() as u8
+}
 
 // The lowest decision of a set, if it has one.
 pub fn lowest(set: Set) -> Option<Decision>
     ensures { λ r. ⌜ Cases r (set ≡ 0) (λ d. Lowest (d .place) set) ⌝ }
 {
-    Decision::new(set.trailing_zeros() as u8)
-}
-
-// The set without one decision.
-pub fn without(set: Set, d: Decision) -> Set
-    ensures { λ r. ⌜ r ≡ set ∖ single (d .place) ⌝ }
-{
-    set & !(1u64 << d.place())
+    Decision::new(zeros_below(set))
 }
 
 // The decisions of a set, lowest first.

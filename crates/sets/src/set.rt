@@ -1,29 +1,51 @@
 ghost use mathlib.Core.Path.{_≡_};
+ghost use Prim.Native.Nat.{ℕ, _/_, _%_, _^_};
 ghost use Rattle.std.specs.Orderings.{Decides};
-ghost use Rattle.sets.specs.Sets.{has, _⊆_, _∪_, _∖_, single, size};
+ghost use Rattle.sets.specs.Sets.{has, _⊆_, _∩_, _∪_, _∖_, single, size};
 use crate::decision::Decision;
 
-// A set of decisions: bit d says that decision d is in it. Intersection and union are `&` and `|`.
+// A set of decisions: bit d says that decision d is in it.
 pub type Set = u64;
+
+// Bit d of the set, as a number.
+fn bit(set: Set, d: Decision) -> u64
+    ensures { λ r. ⌜ r ≡ set / 2 ^ (d .place) % 2 ⌝ }
+{
+    (set >> d.place()) % 2
+}
 
 pub fn contains(set: Set, d: Decision) -> bool
     ensures { λ r. ⌜ r ≡ has set (d .place) ⌝ }
 {
-    (set >> d.place()) & 1 == 1
+    bit(set, d) == 1
 }
 
-// Whether each decision of `inner` is in `outer`.
+// The part of `set` inside `other`.
+pub fn intersection(set: Set, other: Set) -> Set
+    ensures { λ r. ⌜ r ≡ set ∩ other ⌝ }
+{
+    set & other
+}
+
+// Whether each decision of `inner` is in `outer`: it is then its own part there.
 pub fn is_subset(inner: Set, outer: Set) -> bool
     ensures { λ r. ⌜ Decides r (inner ⊆ outer) ⌝ }
 {
-    inner & outer == inner
+    intersection(inner, outer) == inner
 }
 
 // The decisions of `set` that `other` lacks.
 pub fn difference(set: Set, other: Set) -> Set
     ensures { λ r. ⌜ r ≡ set ∖ other ⌝ }
 {
-    set & !other
+    set ^ intersection(set, other)
+}
+
+// The decisions of either set.
+pub fn union(set: Set, other: Set) -> Set
+    ensures { λ r. ⌜ r ≡ set ∪ other ⌝ }
+{
+    set | other
 }
 
 // The set with one decision more.
@@ -31,6 +53,13 @@ pub fn with(set: Set, d: Decision) -> Set
     ensures { λ r. ⌜ r ≡ set ∪ single (d .place) ⌝ }
 {
     set | (1u64 << d.place())
+}
+
+// The set without one decision.
+pub fn without(set: Set, d: Decision) -> Set
+    ensures { λ r. ⌜ r ≡ set ∖ single (d .place) ⌝ }
+{
+    difference(set, with(0, d))
 }
 
 // The number of decisions in the set.

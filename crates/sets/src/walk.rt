@@ -1,8 +1,10 @@
 ghost use mathlib.Core.Path.{_≡_};
 ghost use mathlib.Core.List.{[], _∷_};
+ghost use Prim.Native.Nat.{_<_, _≤_};
 ghost use Rattle.std.specs.Options.{Cases};
+ghost use Rattle.std.specs.Orderings.{Decides};
 ghost use Rattle.sets.specs.Sets.{Between};
-ghost use Rattle.sets.specs.Walks.{sets-between, sets-from};
+ghost use Rattle.sets.specs.Walks.{sets-between, sets-from, Next};
 use crate::set::Set;
 use crate::span::Span;
 
@@ -31,6 +33,24 @@ impl Walk {
         self.at
     }
 
+    // Whether the walk has come to the upper set, which is the last.
+    fn at_end(self) -> bool
+        ensures { λ r. ⌜ Decides r (self .span .upper ≤ self .at) ⌝ }
+    {
+        self.at >= self.span.upper()
+    }
+
+    // The next set of the span. As numbers, 2 to the 64 less what the upper set has besides `at` carries past it.
+    fn successor(self) -> Set
+        requires { ⌜ self .at < self .span .upper ⌝ }
+        ensures inside { λ r. ⌜ Between (self .span .lower) (self .span .upper) r ⌝ }
+        ensures next { λ r. ⌜ Next (self .span .lower) (self .span .upper) (self .at) r ⌝ }
+    {
+        let upper = self.span.upper();
+        let missing = upper - self.at;
+        (!(missing - 1) & upper) | self.span.lower()
+    }
+
     // One step on: what was to come is the set just left, and then what is to come; none after the last set.
     pub fn next(self) -> Option<Walk>
         ensures { λ r. ⌜ Cases r
@@ -38,12 +58,10 @@ impl Walk {
             (λ w. (w .span ≡ self .span)
                 × (sets-from (self .at) (self .span .lower) (self .span .upper) ≡ self .at ∷ sets-from (w .at) (self .span .lower) (self .span .upper))) ⌝ }
     {
-        let upper = self.span.upper();
-        if self.at >= upper {
-            return None;
+        if self.at_end() {
+            None
+        } else {
+            Some(Walk { span: self.span, at: self.successor() })
         }
-        let missing = upper - self.at;
-        let at = (!(missing - 1) & upper) | self.span.lower();
-        Some(Walk { span: self.span, at })
     }
 }

@@ -9,10 +9,9 @@ use Rattle.std.proofs.shelf.Ways.{not-from-decides}
 use Rattle.std.proofs.shelf.Tests.{not-false}
 use Rattle.sets.specs.Sets.{Between}
 use Rattle.sets.specs.declared.span.Span.{Span}
-use Rattle.sets.specs.Walks.{sets-from}
+use Rattle.sets.specs.Walks.{sets-from, Next}
 use Rattle.sets.specs.declared.walk.Walk.{Walk}
 use Rattle.sets.proofs.Members.{sub-le}
-use Rattle.sets.proofs.Successor.{Next}
 use Rattle.sets.proofs.Listing.{next-of-list}
 use Rattle.listed.proofs.Rows.{passed, complete, behind-other, ahead-other, behind-next, ahead-next, ends-early}
 use Rattle.listed.proofs.row.holds_all.Needs as need

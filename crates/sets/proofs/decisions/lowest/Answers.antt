@@ -1,5 +1,5 @@
 -- 64 zeros below the lowest decision say that there is none, and any other count is the lowest decision.
-use mathlib.Core.Path.{_≡_, refl, sym, subst, _∙_}
+use mathlib.Core.Path.{_≡_, sym, subst, _∙_}
 use mathlib.Core.Logic.{⊎-elim}
 use Prim.Native.Nat.{ℕ, _^_, _<_, _≤_}
 use native.Mathlib.Omega.{arith}
@@ -19,4 +19,4 @@ by-count (Some d) s t h e c =
       (λ p. subst (λ (x : ℕ). Lowest x s) (sym (c ∙ e)) (p .1)) (lowest-trailing 64 s h)
 
 pub returns : need.returns
-returns c = by-count (c .new .result) (c .args .set) (trailingZeros 64 (c .args .set)) (omega arith) refl (c .new .ensures)
+returns c = by-count (c .new .result) (c .args .set) (c .zeros-below .result) (omega arith) (c .zeros-below .ensures) (c .new .ensures)

@@ -1,8 +1,9 @@
-use mathlib.Core.Path.{_∙_, ap}
+use mathlib.Core.Path.{ap}
 use Prim.Native.Nat.{ℕ}
+use lib.Dec.{eqb}
 use Rattle.sets.specs.Sets.{has}
-use Rattle.sets.proofs.Members.{has-test}
 use Rattle.sets.proofs.set.contains.Needs as need
 
 pub returns : need.returns
-returns c = has-test (c .args .set) (c .place .result) ∙ ap (has (c .args .set)) (c .place .ensures)
+unfolding has
+returns c = ap (λ (x : ℕ). eqb x 1) (c .bit .ensures)
