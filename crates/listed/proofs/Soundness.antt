@@ -1,5 +1,5 @@
 -- Tables, condition by condition.
-use mathlib.Core.Path.{_≡_, refl, sym, ap, subst, _∙_}
+use mathlib.Core.Path.{_≡_, sym, subst}
 use mathlib.Core.Bool.{Bool, true, false}
 use mathlib.Core.List.{List}
 use mathlib.Core.Logic.{⊎-elim}
@@ -25,15 +25,16 @@ sound-none sets =
 pub sound-at : (cs : List ListedCondition) (sets : List ℕ) → Valid cs sets → (k : ℕ) → Sound (condition cs k) sets
 sound-at cs sets v k =
     ⊎-elim (λ l. v .1 k l)
-      (λ past. subst (λ (c : ListedCondition). Sound c sets) (sym (getD-past cs k no-condition past)) (sound-none sets)) (cases-lt k (length cs))
+    (λ past. subst (λ (c : ListedCondition). Sound c sets) (sym (getD-past cs k no-condition past)) (sound-none sets)) (cases-lt k (length cs))
 
 -- from the two tests of a row
 module _ (c : ListedCondition) (sets xs : List ℕ) (a : Bool) (is-row : xs ≡ row c sets)
     (narrow : size (c .domain) ≤ 12) (placed : c .first + c .len ≤ length sets) (asc : Decides a (Ascends xs)) where
   pub sound-inside : (b : Bool) → a ≡ true → Decides b (Inside xs (c .domain)) → Decides b (Sound c sets)
-  sound-inside b t d =
-      ( (λ e. (narrow, placed, subst Ascends is-row (asc .0 t), subst (λ (ys : List ℕ). Inside ys (c .domain)) is-row (d .0 e))),
-        (λ s. d .1 (subst (λ (ys : List ℕ). Inside ys (c .domain)) (sym is-row) (s .3))) )
+  sound-inside b t d = (
+    (λ e. (narrow, placed, subst Ascends is-row (asc .0 t), subst (λ (ys : List ℕ). Inside ys (c .domain)) is-row (d .0 e))),
+    (λ s. d .1 (subst (λ (ys : List ℕ). Inside ys (c .domain)) (sym is-row) (s .3))),
+  )
 
   pub sound-not : a ≡ false → Decides a (Sound c sets)
   sound-not e = ((λ t. absurd (both-ways a e t)), (λ s. asc .1 (subst Ascends (sym is-row) (s .2))))

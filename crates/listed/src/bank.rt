@@ -1,5 +1,5 @@
 ghost use mathlib.Core.Path.{_≡_};
-ghost use mathlib.Core.List.{List, []};
+ghost use mathlib.Core.List.{[]};
 ghost use denote.Ref.{now};
 ghost use Rattle.std.specs.Results.{Cases};
 ghost use Rattle.banks.specs.Meaning.{no-conditions};
@@ -32,17 +32,24 @@ impl<'a> ListedBank<'a> {
     pub fn new() -> ListedBank<'a>
         ensures { λ r. ⌜ listed (now (r .conditions)) (now (r .sets)) ≡ no-conditions ⌝ }
     {
-        ListedBank { conditions: &[], sets: &[] }
+        ListedBank {
+            conditions: &[],
+            sets: &[],
+        }
     }
 
     // Takes the tables if they are valid; else refuses them, and the bank has no conditions.
-    pub fn load(&mut self, conditions: &'a [ListedCondition], sets: &'a [Set]) -> Result<(), Refusal>
+    pub fn load(
+        &mut self,
+        conditions: &'a [ListedCondition],
+        sets: &'a [Set],
+    ) -> Result<(), Refusal>
         ensures { λ r. ⌜ Cases r
             (λ _. Valid (now (conditions .entry)) (now (sets .entry))
-                × (listed (now (now (self .exit) .conditions)) (now (now (self .exit) .sets)) ≡ listed (now (conditions .entry)) (now (sets .entry))))
+            × (listed (now (now (self .exit) .conditions)) (now (now (self .exit) .sets)) ≡ listed (now (conditions .entry)) (now (sets .entry))))
             (λ e. (Valid (now (conditions .entry)) (now (sets .entry)) → ⊥)
-                × Says e 17 []
-                × (listed (now (now (self .exit) .conditions)) (now (now (self .exit) .sets)) ≡ no-conditions)) ⌝ }
+            × Says e 17 []
+            × (listed (now (now (self .exit) .conditions)) (now (now (self .exit) .sets)) ≡ no-conditions)) ⌝ }
     {
         if valid(conditions, sets) {
             self.conditions = conditions;
@@ -64,7 +71,11 @@ impl ListedBank<'_> {
         if k < self.conditions.len() {
             self.conditions[k]
         } else {
-            ListedCondition { domain: 0, first: 0, len: 0 }
+            ListedCondition {
+                domain: 0,
+                first: 0,
+                len: 0,
+            }
         }
     }
 
@@ -93,10 +104,10 @@ pub impl Bank for ListedBank<'_> as ListedConditions {
     }
 
     fn always(&self, k: u16, span: Span) -> bool {
-        holds_all(self.row_of(k), span.cut(self.at(k).domain))
+        holds_all(self.row_of(k), span.cut(self.domain(k)))
     }
 
     fn never(&self, k: u16, span: Span) -> bool {
-        holds_none(self.row_of(k), span.cut(self.at(k).domain))
+        holds_none(self.row_of(k), span.cut(self.domain(k)))
     }
 }

@@ -3,3 +3,5 @@ pub mod bank;
 pub mod condition;
 mod row;
 mod tables;
+#[cfg(test)]
+mod tests;

@@ -1,6 +1,4 @@
-ghost use mathlib.Core.Path.{_≡_};
-ghost use Prim.Native.Nat.{ℕ, _+_, _≤_};
-ghost use lib.ListN.{length};
+ghost use Prim.Native.Nat.{_+_, _≤_};
 ghost use Rattle.std.specs.Orderings.{Decides};
 ghost use Rattle.sets.specs.Sets.{size};
 ghost use Rattle.sets.specs.Lists.{Ascends};
@@ -12,6 +10,7 @@ use sets::set::is_subset;
 
 // The most conditions that one table may have, and the most decisions in a domain.
 const MAX_CONDITIONS: usize = 256;
+
 const MAX_DOMAIN: u32 = 12;
 
 fn narrow(domain: Set) -> bool

@@ -15,19 +15,48 @@ use std::io;
 // Four listed conditions, and the row of their sets.
 const CONDITIONS: [ListedCondition; 4] = [
     // decision 0 is taken
-    ListedCondition { domain: 0b0001, first: 0, len: 1 },
+    ListedCondition {
+        domain: 0b0001,
+        first: 0,
+        len: 1,
+    },
     // both of 0 and 1, or neither
-    ListedCondition { domain: 0b0011, first: 1, len: 2 },
+    ListedCondition {
+        domain: 0b0011,
+        first: 1,
+        len: 2,
+    },
     // one of 1 and 2, not both
-    ListedCondition { domain: 0b0110, first: 3, len: 2 },
+    ListedCondition {
+        domain: 0b0110,
+        first: 3,
+        len: 2,
+    },
     // at least one of 0 and 2
-    ListedCondition { domain: 0b0101, first: 5, len: 3 },
+    ListedCondition {
+        domain: 0b0101,
+        first: 5,
+        len: 3,
+    },
 ];
 
-const SETS: [Set; 8] = [0b0001, 0b0000, 0b0011, 0b0010, 0b0100, 0b0001, 0b0100, 0b0101];
+const SETS: [Set; 8] = [
+    0b0001,
+    0b0000,
+    0b0011,
+    0b0010,
+    0b0100,
+    0b0001,
+    0b0100,
+    0b0101,
+];
 
 // A table that names one set twice.
-const DOUBLED: [ListedCondition; 1] = [ListedCondition { domain: 0b0001, first: 0, len: 2 }];
+const DOUBLED: [ListedCondition; 1] = [ListedCondition {
+    domain: 0b0001,
+    first: 0,
+    len: 2,
+}];
 
 const DOUBLED_SETS: [Set; 2] = [0b0001, 0b0001];
 
@@ -91,7 +120,10 @@ fn main(rt: LibcRuntime) -> io::Result<()> {
         Err(refusal) => {
             let number = refusal.number();
             let count = bank.count();
-            println!(rt, "a set named twice: refused {number}, conditions left: {count}")?;
+            println!(
+                rt,
+                "a set named twice: refused {number}, conditions left: {count}"
+            )?;
         }
     }
     Ok(())

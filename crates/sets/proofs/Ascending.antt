@@ -1,19 +1,18 @@
 -- Ascending lists of numbers, and what stands in them. Two of them with the same numbers are the same list.
 use mathlib.Core.Path.{_≡_, refl, sym, ap, ap₂, subst, _∙_}
-use mathlib.Core.Bool.{Bool, true, false, cond, _&&_, _||_}
+use mathlib.Core.Bool.{Bool, true, false, cond}
 use mathlib.Core.List.{List, [], _∷_, _++_, map}
 use mathlib.Core.Logic.{_⊎_, inl, inr, ⊎-elim}
-use Prim.Native.Nat.{ℕ, zero, suc, suc-le-suc, _+_, _<_, _≤_}
+use Prim.Native.Nat.{ℕ, zero, suc, suc-le-suc, _+_, _<_}
 use native.Mathlib.Nat.{not-suc-le-zero, le-of-suc-le-suc, zero-lt-suc}
 use native.Mathlib.Numerals.{add-one}
 use native.Mathlib.Omega.{arith}
 use lib.Dec.{eqb}
 use lib.ListN.{length, getD}
 use Rattle.std.specs.shelf.Lists.{All, kept-by}
-use Rattle.std.proofs.shelf.Tests.{cases-bool, both-ways, eqb-true, eqb-false, eq-eqb, or-cases, or-left, or-right, cases-order}
+use Rattle.std.proofs.shelf.Tests.{both-ways, eqb-true, eq-eqb, or-cases, or-left, or-right, cases-order}
 use Rattle.std.proofs.shelf.Elements.{all-weaker, all-append, all-map}
 use Rattle.sets.specs.Lists.{member, Ascends}
-use Rattle.sets.proofs.Members.{same-test}
 
 -- ---- what stands in a list
 
@@ -33,8 +32,8 @@ pub member-place : (x : ℕ) (xs : List ℕ) → member x xs ≡ true → (i : �
 member-place x [] h = member-none x h
 member-place x (y ∷ xs) h =
     ⊎-elim (λ e. (0, zero-lt-suc (length xs), e))
-      (λ m. let p = member-place x xs m in (suc (p .0), suc-le-suc (p .1), p .2))
-      (member-cases x y xs h)
+    (λ m. let p = member-place x xs m in (suc (p .0), suc-le-suc (p .1), p .2))
+    (member-cases x y xs h)
 
 pub member-at : (xs : List ℕ) (i : ℕ) → i < length xs → member (getD xs i 0) xs ≡ true
 member-at [] i h = absurd (not-suc-le-zero h)
@@ -45,7 +44,7 @@ pub member-append-left : (x : ℕ) (xs ys : List ℕ) → member x xs ≡ true �
 member-append-left x [] ys h = member-none x h
 member-append-left x (y ∷ xs) ys h =
     ⊎-elim (λ e. or-left (eqb y x) (member x (xs ++ ys)) (eq-eqb y x e))
-      (λ m. member-tail x y (xs ++ ys) (member-append-left x xs ys m)) (member-cases x y xs h)
+    (λ m. member-tail x y (xs ++ ys) (member-append-left x xs ys m)) (member-cases x y xs h)
 
 pub member-append-right : (x : ℕ) (xs ys : List ℕ) → member x ys ≡ true → member x (xs ++ ys) ≡ true
 member-append-right x [] ys h = h
@@ -55,21 +54,21 @@ pub member-append : (x : ℕ) (xs ys : List ℕ) → member x (xs ++ ys) ≡ tru
 member-append x [] ys h = inr h
 member-append x (y ∷ xs) ys h =
     ⊎-elim (λ e. inl (or-left (eqb y x) (member x xs) (eq-eqb y x e)))
-      (λ m. ⊎-elim (λ a. inl (member-tail x y xs a)) (λ b. inr b) (member-append x xs ys m))
-      (member-cases x y (xs ++ ys) h)
+    (λ m. ⊎-elim (λ a. inl (member-tail x y xs a)) (λ b. inr b) (member-append x xs ys m))
+    (member-cases x y (xs ++ ys) h)
 
 pub member-map : (f : ℕ → ℕ) (x : ℕ) (xs : List ℕ) → member x xs ≡ true → member (f x) (map f xs) ≡ true
 member-map f x [] h = member-none x h
 member-map f x (y ∷ xs) h =
     ⊎-elim (λ e. or-left (eqb (f y) (f x)) (member (f x) (map f xs)) (eq-eqb (f y) (f x) (ap f e)))
-      (λ m. member-tail (f x) (f y) (map f xs) (member-map f x xs m)) (member-cases x y xs h)
+    (λ m. member-tail (f x) (f y) (map f xs) (member-map f x xs m)) (member-cases x y xs h)
 
 pub member-of-map : (f : ℕ → ℕ) (z : ℕ) (xs : List ℕ) → member z (map f xs) ≡ true → (x : ℕ) × (member x xs ≡ true) × (f x ≡ z)
 member-of-map f z [] h = member-none z h
 member-of-map f z (y ∷ xs) h =
     ⊎-elim (λ e. (y, member-head y xs, e))
-      (λ m. let p = member-of-map f z xs m in (p .0, member-tail (p .0) y xs (p .1), p .2))
-      (member-cases z (f y) (map f xs) h)
+    (λ m. let p = member-of-map f z xs m in (p .0, member-tail (p .0) y xs (p .1), p .2))
+    (member-cases z (f y) (map f xs) h)
 
 pick-member : (b : Bool) (x y : ℕ) (ks : List ℕ) → ((b ≡ true) × (y ≡ x)) ⊎ (member x ks ≡ true) → member x (cond b (y ∷ ks) ks) ≡ true
 pick-member true x y ks c = ⊎-elim (λ q. or-left (eqb y x) (member x ks) (eq-eqb y x (q .1))) (λ m. member-tail x y ks m) c
@@ -83,14 +82,14 @@ pub member-kept : (p : ℕ → Bool) (x : ℕ) (xs : List ℕ) → member x xs �
 member-kept p x [] h t = member-none x h
 member-kept p x (y ∷ xs) h t =
     pick-member (p y) x y (kept-by p xs)
-      (⊎-elim (λ e. inl (ap p e ∙ t, e)) (λ m. inr (member-kept p x xs m t)) (member-cases x y xs h))
+    (⊎-elim (λ e. inl (ap p e ∙ t, e)) (λ m. inr (member-kept p x xs m t)) (member-cases x y xs h))
 
 pub member-of-kept : (p : ℕ → Bool) (x : ℕ) (xs : List ℕ) → member x (kept-by p xs) ≡ true → (member x xs ≡ true) × (p x ≡ true)
 member-of-kept p x [] h = member-none x h
 member-of-kept p x (y ∷ xs) h =
     ⊎-elim (λ q. (or-left (eqb y x) (member x xs) (eq-eqb y x (q .1)), ap p (sym (q .1)) ∙ q .0))
-      (λ m. let q = member-of-kept p x xs m in (member-tail x y xs (q .0), q .1))
-      (of-pick (p y) x y (kept-by p xs) h)
+    (λ m. let q = member-of-kept p x xs m in (member-tail x y xs (q .0), q .1))
+    (of-pick (p y) x y (kept-by p xs) h)
 
 pub all-member : (P : ℕ → Type 0) (xs : List ℕ) → All P xs → (x : ℕ) → member x xs ≡ true → P x
 all-member P [] a x h = member-none x h
@@ -109,7 +108,7 @@ Sorted (x ∷ xs) = All (λ y. x < y) xs × Sorted xs
 ascends-tail : (x : ℕ) (xs : List ℕ) → Ascends (x ∷ xs) → Ascends xs
 ascends-tail x xs h i l =
     subst (λ (n : ℕ). getD xs i 0 < getD (x ∷ xs) n 0) (add-one (i + 1))
-      (subst (λ (n : ℕ). getD (x ∷ xs) n 0 < getD (x ∷ xs) (i + 1 + 1) 0) (add-one i) (h (i + 1) (omega arith)))
+    (subst (λ (n : ℕ). getD (x ∷ xs) n 0 < getD (x ∷ xs) (i + 1 + 1) 0) (add-one i) (h (i + 1) (omega arith)))
 
 pub sorted-of : (xs : List ℕ) → Ascends xs → Sorted xs
 sorted-of [] h = tt
@@ -125,13 +124,14 @@ ascends-of (x ∷ []) s i l = absurd (omega arith)
 ascends-of (x ∷ y ∷ xs) s zero l = s .0 .0
 ascends-of (x ∷ y ∷ xs) s (suc i) l =
     subst (λ (n : ℕ). getD (y ∷ xs) i 0 < getD (x ∷ y ∷ xs) n 0) (sym (add-one (suc i)))
-      (subst (λ (n : ℕ). getD (y ∷ xs) i 0 < getD (y ∷ xs) n 0) (add-one i) (ascends-of (y ∷ xs) (s .1) i (omega arith)))
+    (subst (λ (n : ℕ). getD (y ∷ xs) i 0 < getD (y ∷ xs) n 0) (add-one i) (ascends-of (y ∷ xs) (s .1) i (omega arith)))
 
 pub sorted-append : (xs ys : List ℕ) → Sorted xs → Sorted ys → ((x y : ℕ) → member x xs ≡ true → member y ys ≡ true → x < y) → Sorted (xs ++ ys)
 sorted-append [] ys s t h = t
-sorted-append (x ∷ xs) ys s t h =
-    ( all-append (λ y. x < y) xs ys (s .0) (all-of-members (λ y. x < y) ys (λ y m. h x y (member-head x xs) m)),
-      sorted-append xs ys (s .1) t (λ a b m n. h a b (member-tail a x xs m) n) )
+sorted-append (x ∷ xs) ys s t h = (
+  all-append (λ y. x < y) xs ys (s .0) (all-of-members (λ y. x < y) ys (λ y m. h x y (member-head x xs) m)),
+  sorted-append xs ys (s .1) t (λ a b m n. h a b (member-tail a x xs m) n),
+)
 
 pub sorted-map : (f : ℕ → ℕ) (xs : List ℕ) → ((x y : ℕ) → x < y → f x < f y) → Sorted xs → Sorted (map f xs)
 sorted-map f [] h s = tt
@@ -146,8 +146,8 @@ pub sorted-kept : (p : ℕ → Bool) (xs : List ℕ) → Sorted xs → Sorted (k
 sorted-kept p [] s = tt
 sorted-kept p (x ∷ xs) s =
     sorted-pick (p x) x (kept-by p xs)
-      (all-of-members (λ y. x < y) (kept-by p xs) (λ y m. all-member (λ z. x < z) xs (s .0) y (member-of-kept p y xs m .0)))
-      (sorted-kept p xs (s .1))
+    (all-of-members (λ y. x < y) (kept-by p xs) (λ y m. all-member (λ z. x < z) xs (s .0) y (member-of-kept p y xs m .0)))
+    (sorted-kept p xs (s .1))
 
 -- ---- the same numbers make the same list
 
@@ -159,12 +159,12 @@ sorted-ext (x ∷ xs) [] s t f g = member-none x (f x (member-head x xs))
 sorted-ext (x ∷ xs) (y ∷ ys) s t f g =
     let same : x ≡ y = heads (cases-order x y) in
     ap₂ (λ (h : ℕ) (r : List ℕ). h ∷ r) same (sorted-ext xs ys (s .1) (t .1)
-      (λ z m. ⊎-elim (λ e. let l = all-member (λ w. x < w) xs (s .0) z m in absurd (omega arith)) (λ n. n) (member-cases z y ys (f z (member-tail z x xs m))))
-      (λ z m. ⊎-elim (λ e. let l = all-member (λ w. y < w) ys (t .0) z m in absurd (omega arith)) (λ n. n) (member-cases z x xs (g z (member-tail z y ys m)))))
+    (λ z m. ⊎-elim (λ e. let l = all-member (λ w. x < w) xs (s .0) z m in absurd (omega arith)) (λ n. n) (member-cases z y ys (f z (member-tail z x xs m))))
+    (λ z m. ⊎-elim (λ e. let l = all-member (λ w. y < w) ys (t .0) z m in absurd (omega arith)) (λ n. n) (member-cases z x xs (g z (member-tail z y ys m)))))
   where
     heads : (x ≡ y) ⊎ ((x < y) ⊎ (y < x)) → x ≡ y
     heads c = ⊎-elim (λ e. e)
-      (λ d. ⊎-elim
+        (λ d. ⊎-elim
         (λ (l : x < y). ⊎-elim (λ e. sym e) (λ m. let k = all-member (λ w. y < w) ys (t .0) x m in absurd (omega arith)) (member-cases x y ys (f x (member-head x xs))))
         (λ (l : y < x). ⊎-elim (λ e. e) (λ m. let k = all-member (λ w. x < w) xs (s .0) y m in absurd (omega arith)) (member-cases y x xs (g y (member-head y ys)))) d) c
 
@@ -175,6 +175,6 @@ ascends-apart xs h i zero l k = absurd (not-suc-le-zero l)
 ascends-apart xs h i (suc j) l k =
     let step : getD xs j 0 < getD xs (suc j) 0 = subst (λ (n : ℕ). getD xs j 0 < getD xs n 0) (add-one j) (h j (omega arith)) in
     ⊎-elim
-      (λ (e : i ≡ j). subst (λ (n : ℕ). getD xs n 0 < getD xs (suc j) 0) (sym e) step)
-      (λ d. ⊎-elim (λ (q : i < j). let r = ascends-apart xs h i j q (omega arith) in omega arith) (λ q. absurd (omega arith)) d)
-      (cases-order i j)
+    (λ (e : i ≡ j). subst (λ (n : ℕ). getD xs n 0 < getD xs (suc j) 0) (sym e) step)
+    (λ d. ⊎-elim (λ (q : i < j). let r = ascends-apart xs h i j q (omega arith) in omega arith) (λ q. absurd (omega arith)) d)
+    (cases-order i j)

@@ -1,7 +1,7 @@
 -- The lists of a set's decisions and of the sets between two sets: what stands in them, that they ascend, and how long they are.
 use mathlib.Core.Path.{_≡_, refl, sym, ap, ap₂, subst, _∙_}
 use mathlib.Core.Bool.{Bool, true, false, not, cond, _&&_, _||_}
-use mathlib.Core.List.{List, [], _∷_, _++_, map}
+use mathlib.Core.List.{List, [], _∷_, map}
 use mathlib.Core.Logic.{_⊎_, inl, inr, ⊎-elim}
 use Prim.Native.Nat.{ℕ, zero, suc, zero-le, suc-le-suc, _+_, _-_, _*_, _/_, _%_, _^_, _<_, _≤_}
 use native.Mathlib.Nat.{not-suc-le-zero, le-of-suc-le-suc, pow-suc, mod-lt, mod-eq-of-lt, zero-lt-suc, eq-or-lt-of-le, add-comm, add-zero, zero-add, mul-le-mul-right}
@@ -12,17 +12,16 @@ use lib.Bits.{bitAnd, bitOr, or-shifted-r}
 use lib.Count.{ones, ones-cat, trailingZeros, under}
 use lib.Dec.{eqb, leb, lit<}
 use lib.ListN.{length, length-append, length-map}
-use lib.Pow.{pow-pos, pow-mono}
-use Rattle.std.specs.shelf.Lists.{All, kept-by}
+use lib.Pow.{pow-pos}
 use Rattle.std.proofs.shelf.Bits.{shr-split, mod-pow-add}
 use Rattle.std.proofs.shelf.Tests.{cases-bool, cases-eq, both-ways, eqb-true, eqb-false, eq-eqb, ne-eqb, leb-true, le-leb, or-cases, or-left, or-right, cases-lt}
-use Rattle.sets.specs.Sets.{has, _∈_, _∉_, _⊆_, _∩_, _∪_, _∖_, single, size, Lowest, Between}
-use Rattle.sets.specs.Lists.{member, Ascends}
+use Rattle.sets.specs.Sets.{has, _∈_, _∉_, _⊆_, _∖_, single, Lowest, Between}
+use Rattle.sets.specs.Lists.{member}
 use Rattle.sets.specs.Walks.{decisions-below, decisions, between-below, sets-between, sets-from, Next}
 use Rattle.sets.specs.Laws.{Decisions-listed, Between-listed}
-use Rattle.sets.proofs.Members.{has-zero, has-suc, has-none, has-high, has-or, has-minus, has-single, member-below, sub-lt, sub-le, sub-refl, and-second, or-second, or-least}
+use Rattle.sets.proofs.Members.{has-zero, has-suc, has-none, has-high, has-or, has-minus, has-single, member-below, sub-lt, sub-le, and-second, or-second, or-least}
 use Rattle.sets.proofs.Ascending.{member-head, member-tail, member-cases, member-none, member-append-left, member-append-right, member-append, member-map, member-of-map, member-kept, member-of-kept, all-member, all-of-members, Sorted, ascends-of, sorted-append, sorted-map, sorted-kept, sorted-ext}
-use Rattle.sets.proofs.Successor.{after, next-after, half-lt}
+use Rattle.sets.proofs.Successor.{after, half-lt}
 
 -- ---- the digit above n others
 
@@ -42,12 +41,12 @@ top-out n s h o =
   where
     top-digit : (n s : ℕ) → s < 2 ^ suc n → s / 2 ^ n < 2
     top-digit n s h = ⊎-elim (λ l. l)
-      (λ (g : 2 ≤ s / 2 ^ n).
+        (λ (g : 2 ≤ s / 2 ^ n).
         let e : s / 2 ^ n * 2 ^ n + s % 2 ^ n ≡ s = shr-split s n in
         let m : 2 * 2 ^ n ≤ s / 2 ^ n * 2 ^ n = mul-le-mul-right (2 ^ n) g in
         let p : 2 ^ suc n ≡ 2 ^ n + 2 ^ n = pow-more n in
         absurd (omega arith))
-      (cases-lt (s / 2 ^ n) 2)
+        (cases-lt (s / 2 ^ n) 2)
 
 top-in : (n s : ℕ) → s < 2 ^ suc n → n ∈ s → (2 ^ n ≤ s) × (s - 2 ^ n < 2 ^ n)
 top-in n s h i = ⊎-elim
@@ -94,7 +93,7 @@ unfolding decisions-below
 to-decisions zero s d l m = absurd (not-suc-le-zero l)
 to-decisions (suc n) s d l m = ⊎-elim
     (λ e. member-append-right d (decisions-below n s) (cond (has s n) (n ∷ []) [])
-      (subst (λ (x : ℕ). member x (cond (has s n) (n ∷ []) []) ≡ true) (sym e) (here (has s n) n (ap (has s) (sym e) ∙ m))))
+    (subst (λ (x : ℕ). member x (cond (has s n) (n ∷ []) []) ≡ true) (sym e) (here (has s n) n (ap (has s) (sym e) ∙ m))))
     (λ (k : d < n). member-append-left d (decisions-below n s) (cond (has s n) (n ∷ []) []) (to-decisions n s d k m))
     (last d n l)
 
@@ -115,7 +114,7 @@ unfolding decisions-below
 sorted-decisions zero s = tt
 sorted-decisions (suc n) s =
     sorted-append (decisions-below n s) (cond (has s n) (n ∷ []) []) (sorted-decisions n s) (sorted-one (has s n) n)
-      (λ x y p q. let a = of-decisions n s x p .0 in let e = only (has s n) n y q .1 in omega arith)
+    (λ x y p q. let a = of-decisions n s x p .0 in let e = only (has s n) n y q .1 in omega arith)
 
 length-one : (b : Bool) (n : ℕ) → length (cond b (n ∷ []) []) ≡ cond b 1 0
 length-one true n = refl
@@ -156,8 +155,8 @@ lowest-trailing (suc k) s h = by-digit (s % 2) refl (mod-lt s (zero-lt-suc 1)) (
         → ((trailingZeros k (s / 2) ≡ k) × (s / 2 ≡ 0)) ⊎ ((trailingZeros k (s / 2) < k) × Lowest (trailingZeros k (s / 2)) (s / 2))
         → ((under x (trailingZeros k (s / 2)) ≡ suc k) × (s ≡ 0)) ⊎ ((under x (trailingZeros k (s / 2)) < suc k) × Lowest (under x (trailingZeros k (s / 2))) s)
     by-digit zero e l c = ⊎-elim
-      (λ (p : (trailingZeros k (s / 2) ≡ k) × (s / 2 ≡ 0)). let q = p .1 in inl (ap suc (p .0), omega arith))
-      (λ (p : (trailingZeros k (s / 2) < k) × Lowest (trailingZeros k (s / 2)) (s / 2)).
+        (λ (p : (trailingZeros k (s / 2) ≡ k) × (s / 2 ≡ 0)). let q = p .1 in inl (ap suc (p .0), omega arith))
+        (λ (p : (trailingZeros k (s / 2) < k) × Lowest (trailingZeros k (s / 2)) (s / 2)).
         inr (suc-le-suc (p .0), (has-suc s (trailingZeros k (s / 2)) ∙ p .1 .0, higher s (trailingZeros k (s / 2)) e (p .1 .1)))) c
     by-digit (suc zero) e l c = inr (zero-lt-suc k, (has-zero s ∙ eq-eqb (s % 2) 1 e, λ d m. zero-le))
     by-digit (suc (suc x)) e l c = absurd (not-suc-le-zero (le-of-suc-le-suc (le-of-suc-le-suc l)))
@@ -165,18 +164,20 @@ lowest-trailing (suc k) s h = by-digit (s % 2) refl (mod-lt s (zero-lt-suc 1)) (
 pub lowest-first : (s d : ℕ) → s < 2 ^ 64 → Lowest d s → decisions s ≡ d ∷ decisions (s ∖ single d)
 lowest-first s d h low =
     let rest = decisions (s ∖ single d) in
-    sorted-ext (decisions s) (d ∷ rest) (sorted-decisions 64 s)
-      (all-of-members (λ e. d < e) rest (λ e m.
-        let k = without e (of-decisions 64 (s ∖ single d) e m .1) in
-        let l = low .1 e (k .0) in let ne = k .1 in omega arith), sorted-decisions 64 (s ∖ single d))
-      (λ e m. let k = of-decisions 64 s e m in ⊎-elim
-        (λ (q : d ≡ e). subst (λ (x : ℕ). member x (d ∷ rest) ≡ true) q (member-head d rest))
-        (λ ne. member-tail e d rest (to-decisions 64 (s ∖ single d) e (k .0) (keep e (k .1) ne)))
-        (cases-eq d e))
-      (λ e m. ⊎-elim
-        (λ (q : d ≡ e). to-decisions 64 s e (member-below 64 s e h (ap (has s) (sym q) ∙ low .0)) (ap (has s) (sym q) ∙ low .0))
-        (λ n. let k = of-decisions 64 (s ∖ single d) e n in to-decisions 64 s e (k .0) (without e (k .1) .0))
-        (member-cases e d rest m))
+    sorted-ext (decisions s) (d ∷ rest) (sorted-decisions 64 s) (
+      all-of-members (λ e. d < e) rest (λ e m.
+          let k = without e (of-decisions 64 (s ∖ single d) e m .1) in
+          let l = low .1 e (k .0) in let ne = k .1 in omega arith),
+      sorted-decisions 64 (s ∖ single d),
+    )
+    (λ e m. let k = of-decisions 64 s e m in ⊎-elim
+    (λ (q : d ≡ e). subst (λ (x : ℕ). member x (d ∷ rest) ≡ true) q (member-head d rest))
+    (λ ne. member-tail e d rest (to-decisions 64 (s ∖ single d) e (k .0) (keep e (k .1) ne)))
+    (cases-eq d e))
+    (λ e m. ⊎-elim
+    (λ (q : d ≡ e). to-decisions 64 s e (member-below 64 s e h (ap (has s) (sym q) ∙ low .0)) (ap (has s) (sym q) ∙ low .0))
+    (λ n. let k = of-decisions 64 (s ∖ single d) e n in to-decisions 64 s e (k .0) (without e (k .1) .0))
+    (member-cases e d rest m))
   where
     without : (e : ℕ) → e ∈ s ∖ single d → (e ∈ s) × (d ≡ e → ⊥)
     without e m =
@@ -187,6 +188,7 @@ lowest-first s d h low =
         parts true true p f = absurd (both-ways false refl p)
         parts true false p f = (refl, λ q. both-ways false refl (f q))
         parts false b p f = absurd (both-ways false refl p)
+
     keep : (e : ℕ) → e ∈ s → (d ≡ e → ⊥) → e ∈ s ∖ single d
     keep e m ne =
         has-minus s (single d) e ∙ ap (λ (b : Bool). has s e && not b) (has-single d e ∙ ne-eqb e d (λ q. ne (sym q)))
@@ -196,7 +198,7 @@ pub decisions-none : (s : ℕ) → s ≡ 0 → decisions s ≡ []
 decisions-none s e =
     ap decisions e
     ∙ sorted-ext (decisions 0) [] (sorted-decisions 64 0) tt
-        (λ d m. absurd (both-ways (has 0 d) (has-none d) (of-decisions 64 0 d m .1))) (λ d m. member-none d m)
+    (λ d m. absurd (both-ways (has 0 d) (has-none d) (of-decisions 64 0 d m .1))) (λ d m. member-none d m)
 
 -- ---- the sets between two sets
 
@@ -224,34 +226,36 @@ within-low : (n lo up s : ℕ) → n ∉ lo → Within n lo up s → Within (suc
 unfolding Within
 within-low n lo up s o w =
     let p : 2 ^ suc n ≡ 2 ^ n + 2 ^ n = pow-more n in
-    let l = w .0 in
-    ( omega arith,
+    let l = w .0 in (
+      omega arith,
       (λ d k m. ⊎-elim (λ e. absurd (both-ways (has lo d) (ap (has lo) e ∙ o) m)) (λ j. w .1 d j m) (last d n k)),
-      w .2 )
+      w .2,
+    )
 
 within-high : (n lo up x : ℕ) → n ∈ up → Within n lo up x → Within (suc n) lo up (x + 2 ^ n)
 unfolding Within
 within-high n lo up x i w =
     let p : 2 ^ suc n ≡ 2 ^ n + 2 ^ n = pow-more n in
-    let l = w .0 in
-    ( omega arith,
+    let l = w .0 in (
+      omega arith,
       (λ d k m. has-more n x d (w .0) ∙ ⊎-elim (λ e. or-right (has x d) (eqb d n) (eq-eqb d n e)) (λ j. or-left (has x d) (eqb d n) (w .1 d j m)) (last d n k)),
-      (λ d m. ⊎-elim (λ a. w .2 d a) (λ b. ap (has up) (eqb-true d n b) ∙ i) (or-cases (has x d) (eqb d n) (sym (has-more n x d (w .0)) ∙ m))) )
+      (λ d m. ⊎-elim (λ a. w .2 d a) (λ b. ap (has up) (eqb-true d n b) ∙ i) (or-cases (has x d) (eqb d n) (sym (has-more n x d (w .0)) ∙ m))),
+    )
 
 of-between : (n lo up s : ℕ) → member s (between-below n lo up) ≡ true → Within n lo up s
 unfolding between-below Within
 of-between zero lo up s h =
     ⊎-elim (λ (e : 0 ≡ s). subst (Within zero lo up) e (lit< tt, (λ d l m. absurd (not-suc-le-zero l)), (λ d m. absurd (both-ways (has 0 d) (has-none d) m))))
-      (λ m. member-none s m) (member-cases s 0 [] h)
+    (λ m. member-none s m) (member-cases s 0 [] h)
 of-between (suc n) lo up s h =
     let rs = between-below n lo up in
     ⊎-elim
-      (λ a. let g = gone (has lo n) s rs a in within-low n lo up s (g .0) (of-between n lo up s (g .1)))
-      (λ b.
-        let g = came (has up n) s (map (λ x. x + 2 ^ n) rs) b in
-        let q = member-of-map (λ x. x + 2 ^ n) s rs (g .1) in
-        subst (Within (suc n) lo up) (q .2) (within-high n lo up (q .0) (g .0) (of-between n lo up (q .0) (q .1))))
-      (member-append s (cond (has lo n) [] rs) (cond (has up n) (map (λ x. x + 2 ^ n) rs) []) h)
+    (λ a. let g = gone (has lo n) s rs a in within-low n lo up s (g .0) (of-between n lo up s (g .1)))
+    (λ b.
+    let g = came (has up n) s (map (λ x. x + 2 ^ n) rs) b in
+    let q = member-of-map (λ x. x + 2 ^ n) s rs (g .1) in
+    subst (Within (suc n) lo up) (q .2) (within-high n lo up (q .0) (g .0) (of-between n lo up (q .0) (q .1))))
+    (member-append s (cond (has lo n) [] rs) (cond (has up n) (map (λ x. x + 2 ^ n) rs) []) h)
 
 to-between : (n lo up s : ℕ) → Within n lo up s → member s (between-below n lo up) ≡ true
 unfolding between-below Within
@@ -259,23 +263,24 @@ to-between zero lo up s w = subst (λ (x : ℕ). member x (0 ∷ []) ≡ true) (
 to-between (suc n) lo up s w =
     let rs = between-below n lo up in
     ⊎-elim
-      (λ (i : n ∈ s).
-        let t = top-in n s (w .0) i in
-        let e : s - 2 ^ n + 2 ^ n ≡ s = omega (arith, t .0) in
-        let same : (d : ℕ) → has s d ≡ (has (s - 2 ^ n) d || eqb d n) = λ d. ap (λ (y : ℕ). has y d) (sym e) ∙ has-more n (s - 2 ^ n) d (t .1) in
-        let inner : Within n lo up (s - 2 ^ n) =
-          ( t .1,
-            (λ d l m. ⊎-elim (λ a. a) (λ b. let q = eqb-true d n b in absurd (omega arith)) (or-cases (has (s - 2 ^ n) d) (eqb d n) (sym (same d) ∙ w .1 d (omega arith) m))),
-            (λ d m. w .2 d (same d ∙ or-left (has (s - 2 ^ n) d) (eqb d n) m)) ) in
-        member-append-right s (cond (has lo n) [] rs) (cond (has up n) (map (λ x. x + 2 ^ n) rs) [])
-          (come (has up n) s (map (λ x. x + 2 ^ n) rs) (w .2 n i)
-            (subst (λ (y : ℕ). member y (map (λ x. x + 2 ^ n) rs) ≡ true) e (member-map (λ x. x + 2 ^ n) (s - 2 ^ n) rs (to-between n lo up (s - 2 ^ n) inner)))))
-      (λ (o : n ∉ s).
-        member-append-left s (cond (has lo n) [] rs) (cond (has up n) (map (λ x. x + 2 ^ n) rs) [])
-          (stay (has lo n) s rs
-            (⊎-elim (λ (m : n ∈ lo). absurd (both-ways (has s n) o (w .1 n (omega arith) m))) (λ f. f) (cases-bool (has lo n)))
-            (to-between n lo up s (top-out n s (w .0) o, (λ d l m. w .1 d (omega arith) m), w .2))))
-      (cases-bool (has s n))
+    (λ (i : n ∈ s).
+    let t = top-in n s (w .0) i in
+    let e : s - 2 ^ n + 2 ^ n ≡ s = omega (arith, t .0) in
+    let same : (d : ℕ) → has s d ≡ (has (s - 2 ^ n) d || eqb d n) = λ d. ap (λ (y : ℕ). has y d) (sym e) ∙ has-more n (s - 2 ^ n) d (t .1) in
+    let inner : Within n lo up (s - 2 ^ n) = (
+      t .1,
+      (λ d l m. ⊎-elim (λ a. a) (λ b. let q = eqb-true d n b in absurd (omega arith)) (or-cases (has (s - 2 ^ n) d) (eqb d n) (sym (same d) ∙ w .1 d (omega arith) m))),
+      (λ d m. w .2 d (same d ∙ or-left (has (s - 2 ^ n) d) (eqb d n) m)),
+    ) in
+    member-append-right s (cond (has lo n) [] rs) (cond (has up n) (map (λ x. x + 2 ^ n) rs) [])
+    (come (has up n) s (map (λ x. x + 2 ^ n) rs) (w .2 n i)
+    (subst (λ (y : ℕ). member y (map (λ x. x + 2 ^ n) rs) ≡ true) e (member-map (λ x. x + 2 ^ n) (s - 2 ^ n) rs (to-between n lo up (s - 2 ^ n) inner)))))
+    (λ (o : n ∉ s).
+    member-append-left s (cond (has lo n) [] rs) (cond (has up n) (map (λ x. x + 2 ^ n) rs) [])
+    (stay (has lo n) s rs
+    (⊎-elim (λ (m : n ∈ lo). absurd (both-ways (has s n) o (w .1 n (omega arith) m))) (λ f. f) (cases-bool (has lo n)))
+    (to-between n lo up s (top-out n s (w .0) o, (λ d l m. w .1 d (omega arith) m), w .2))))
+    (cases-bool (has s n))
 
 pub in-between : (lo up s : ℕ) → lo ⊆ up → up < 2 ^ 64 → member s (sets-between lo up) ≡ true → Between lo up s
 unfolding Within
@@ -302,11 +307,11 @@ sorted-between (suc n) lo up =
     let rs = between-below n lo up in
     let ih : Sorted rs = sorted-between n lo up in
     sorted-append (cond (has lo n) [] rs) (cond (has up n) (map (λ x. x + 2 ^ n) rs) [])
-      (sorted-gone (has lo n) rs ih) (sorted-come (has up n) (map (λ x. x + 2 ^ n) rs) (sorted-map (λ x. x + 2 ^ n) rs (λ x y l. omega arith) ih))
-      (λ x y p q.
-        let a = of-between n lo up x (gone (has lo n) x rs p .1) .0 in
-        let e = member-of-map (λ z. z + 2 ^ n) y rs (came (has up n) y (map (λ z. z + 2 ^ n) rs) q .1) in
-        let f = e .2 in omega arith)
+    (sorted-gone (has lo n) rs ih) (sorted-come (has up n) (map (λ x. x + 2 ^ n) rs) (sorted-map (λ x. x + 2 ^ n) rs (λ x y l. omega arith) ih))
+    (λ x y p q.
+    let a = of-between n lo up x (gone (has lo n) x rs p .1) .0 in
+    let e = member-of-map (λ z. z + 2 ^ n) y rs (came (has up n) y (map (λ z. z + 2 ^ n) rs) q .1) in
+    let f = e .2 in omega arith)
 
 length-gone : (b : Bool) (xs : List ℕ) → length (cond b [] xs) ≡ cond b 0 (length xs)
 length-gone true xs = refl
@@ -342,13 +347,6 @@ minus-lt n s t h = sub-lt n (s ∖ t) s (λ d m. first (has s d) (has t d) (sym 
     first true b e = refl
     first false b e = absurd (both-ways false refl e)
 
-pub between-listed : Between-listed
-between-listed = record {
-  exactly = λ lo up s h l. (in-between lo up s h l, to-sets-between lo up s l);
-  ascending = λ lo up. ascends-of (sets-between lo up) (sorted-between 64 lo up);
-  counted = λ lo up h l. length-between 64 lo up h ∙ ap (λ (x : ℕ). 2 ^ ones x) (mod-eq-of-lt (minus-lt 64 up lo l));
-}
-
 -- ---- going through them
 
 module _ (lo up s : ℕ) (nested : lo ⊆ up) (fits : up < 2 ^ 64) (inside : Between lo up s) where
@@ -367,47 +365,49 @@ module _ (lo up s : ℕ) (nested : lo ⊆ up) (fits : up < 2 ^ 64) (inside : Bet
   pub from-next : (x : ℕ) → Next lo up s x → sets-from s lo up ≡ s ∷ sets-from x lo up
   from-next x n =
       sorted-ext (sets-from s lo up) (s ∷ sets-from x lo up) (sorted-from s)
-        (all-of-members (λ z. s < z) (sets-from x lo up) (λ z m. let l = in-from x z m .1 in let k = n .0 in omega arith), sorted-from x)
-        (λ z m. let k = in-from s z m in ⊎-elim
-          (λ (e : s ≡ z). subst (λ (y : ℕ). member y (s ∷ sets-from x lo up) ≡ true) e (member-head s (sets-from x lo up)))
-          (λ ne. let l = k .1 in member-tail z s (sets-from x lo up) (to-from x z (k .0) (n .1 z (k .0) (omega arith))))
-          (cases-eq s z))
-        (λ z m. ⊎-elim
-          (λ (e : s ≡ z). subst (λ (y : ℕ). member y (sets-from s lo up) ≡ true) e (to-from s s inside (omega arith)))
-          (λ q. let k = in-from x z q in let a = k .1 in let b = n .0 in to-from s z (k .0) (omega arith))
-          (member-cases z s (sets-from x lo up) m))
+      (all-of-members (λ z. s < z) (sets-from x lo up) (λ z m. let l = in-from x z m .1 in let k = n .0 in omega arith), sorted-from x)
+      (λ z m. let k = in-from s z m in ⊎-elim
+      (λ (e : s ≡ z). subst (λ (y : ℕ). member y (s ∷ sets-from x lo up) ≡ true) e (member-head s (sets-from x lo up)))
+      (λ ne. let l = k .1 in member-tail z s (sets-from x lo up) (to-from x z (k .0) (n .1 z (k .0) (omega arith))))
+      (cases-eq s z))
+      (λ z m. ⊎-elim
+      (λ (e : s ≡ z). subst (λ (y : ℕ). member y (sets-from s lo up) ≡ true) e (to-from s s inside (omega arith)))
+      (λ q. let k = in-from x z q in let a = k .1 in let b = n .0 in to-from s z (k .0) (omega arith))
+      (member-cases z s (sets-from x lo up) m))
 
   -- the upper set comes last
   pub from-last : s ≡ up → sets-from s lo up ≡ s ∷ []
   from-last e =
       sorted-ext (sets-from s lo up) (s ∷ []) (sorted-from s) (tt, tt)
-        (λ z m. let k = in-from s z m in
-          let a = k .1 in let b = sub-le z up (k .0 .1) in
-          let same : s ≡ z = omega arith in
-          subst (λ (y : ℕ). member y (s ∷ []) ≡ true) same (member-head s []))
-        (λ z m. ⊎-elim
-          (λ (q : s ≡ z). subst (λ (y : ℕ). member y (sets-from s lo up) ≡ true) q (to-from s s inside (omega arith)))
-          (λ q. member-none z q)
-          (member-cases z s [] m))
+      (λ z m. let k = in-from s z m in
+      let a = k .1 in let b = sub-le z up (k .0 .1) in
+      let same : s ≡ z = omega arith in
+      subst (λ (y : ℕ). member y (s ∷ []) ≡ true) same (member-head s []))
+      (λ z m. ⊎-elim
+      (λ (q : s ≡ z). subst (λ (y : ℕ). member y (sets-from s lo up) ≡ true) q (to-from s s inside (omega arith)))
+      (λ q. member-none z q)
+      (member-cases z s [] m))
 
   -- and the other way round: what the list says of the next set, and of the last one
   pub next-of-list : (x : ℕ) → Between lo up x → sets-from s lo up ≡ s ∷ sets-from x lo up → Next lo up s x
   next-of-list x b e =
-      let sorted : Sorted (s ∷ sets-from x lo up) = subst Sorted e (sorted-from s) in
-      ( all-member (λ z. s < z) (sets-from x lo up) (sorted .0) x (to-from x x b (omega arith)),
+      let sorted : Sorted (s ∷ sets-from x lo up) = subst Sorted e (sorted-from s) in (
+        all-member (λ z. s < z) (sets-from x lo up) (sorted .0) x (to-from x x b (omega arith)),
         (λ f g l. ⊎-elim (λ (q : s ≡ f). absurd (omega arith)) (λ m. in-from x f m .1)
-          (member-cases f s (sets-from x lo up) (subst (λ (ys : List ℕ). member f ys ≡ true) e (to-from s f g (omega arith))))) )
+            (member-cases f s (sets-from x lo up) (subst (λ (ys : List ℕ). member f ys ≡ true) e (to-from s f g (omega arith))))),
+      )
 
   pub last-of-list : sets-from s lo up ≡ s ∷ [] → (f : ℕ) → Between lo up f → s ≤ f → f ≡ s
   last-of-list e f g l =
       ⊎-elim (λ (q : s ≡ f). sym q) (λ m. member-none f m)
-        (member-cases f s [] (subst (λ (ys : List ℕ). member f ys ≡ true) e (to-from s f g l)))
+      (member-cases f s [] (subst (λ (ys : List ℕ). member f ys ≡ true) e (to-from s f g l)))
 
   -- the code's step
   pub after-inside : Between lo up (after 64 lo up s)
-  after-inside =
-      ( or-second (bitAnd (2 ^ 64 - (up - s)) up) lo,
-        or-least (bitAnd (2 ^ 64 - (up - s)) up) lo up (and-second (2 ^ 64 - (up - s)) up) nested )
+  after-inside = (
+    or-second (bitAnd (2 ^ 64 - (up - s)) up) lo,
+    or-least (bitAnd (2 ^ 64 - (up - s)) up) lo up (and-second (2 ^ 64 - (up - s)) up) nested,
+  )
 
 -- `(!(missing - 1) & u) | l`, where `missing` is `u - s`
 pub is-after : (lo up s l u : ℕ) → l ≡ lo → u ≡ up → s < u → bitOr (bitAnd (18446744073709551615 - (u - s - 1)) u) l ≡ after 64 lo up s
@@ -419,5 +419,15 @@ is-after lo up s l u p q h =
 pub from-first : (lo up : ℕ) → lo ⊆ up → up < 2 ^ 64 → sets-from lo lo up ≡ sets-between lo up
 from-first lo up h l =
     sorted-ext (sets-from lo lo up) (sets-between lo up) (sorted-kept (λ y. leb lo y) (sets-between lo up) (sorted-between 64 lo up)) (sorted-between 64 lo up)
-      (λ z m. member-of-kept (λ y. leb lo y) z (sets-between lo up) m .0)
-      (λ z m. member-kept (λ y. leb lo y) z (sets-between lo up) m (le-leb lo z (sub-le lo z (in-between lo up z h l m .0))))
+    (λ z m. member-of-kept (λ y. leb lo y) z (sets-between lo up) m .0)
+    (λ z m. member-kept (λ y. leb lo y) z (sets-between lo up) m (le-leb lo z (sub-le lo z (in-between lo up z h l m .0))))
+
+-- ---- the law by name
+
+pub between-listed : Between-listed
+between-listed = record {
+  exactly = λ lo up s h l. (in-between lo up s h l, to-sets-between lo up s l);
+  ascending = λ lo up. ascends-of (sets-between lo up) (sorted-between 64 lo up);
+  counted = λ lo up h l. length-between 64 lo up h ∙ ap (λ (x : ℕ). 2 ^ ones x) (mod-eq-of-lt (minus-lt 64 up lo l));
+  starts = from-first;
+}

@@ -1,7 +1,7 @@
 -- Membership in sets that are numbers: digit by digit, and from it the laws of subset, intersection, union and difference.
-use mathlib.Core.Path.{_≡_, refl, sym, ap, ap₂, subst, _∙_}
-use mathlib.Core.Bool.{Bool, true, false, not, cond, _&&_, _||_}
-use mathlib.Core.Logic.{_⊎_, inl, inr, ⊎-elim}
+use mathlib.Core.Path.{_≡_, refl, sym, ap, ap₂, _∙_}
+use mathlib.Core.Bool.{Bool, true, false, not, _&&_, _||_}
+use mathlib.Core.Logic.{_⊎_, ⊎-elim}
 use Prim.Native.Nat.{ℕ, zero, suc, _+_, _-_, _*_, _/_, _%_, _^_, _<_, _≤_}
 use native.Mathlib.Nat.{div-eq-of-lt, div-add-mod', mod-lt, zero-lt-suc, not-suc-le-zero, le-of-suc-le-suc, pow-suc, le-trans, le-of-eq, lt-of-le-of-lt, mul-div-cancel, mul-mod-left}
 use native.Mathlib.Omega.{arith}
@@ -13,13 +13,10 @@ use lib.Bits.{bitAnd, bitOr, bitXor, and-shr, and-mod, or-shr, or-mod, xor-shr, 
 use Rattle.std.proofs.shelf.Tests.{cases-bool, cases-lt, both-ways, eqb-true, eqb-false, and-parts, and-from, or-cases, or-left, or-right}
 use Rattle.std.specs.Orderings.{Decides}
 use Rattle.std.proofs.shelf.Ways.{decides-eqb, decides-like}
-use Rattle.sets.specs.Sets.{has, _∈_, _∉_, _⊆_, _∩_, _∪_, _∖_, single, Between}
+use Rattle.sets.specs.Sets.{has, _∈_, _∉_, _⊆_, _∩_, _∪_, _∖_, single}
 use Rattle.sets.specs.Laws.{Extensional, Order, Members}
 
 -- ---- the lowest digit, and the rest
-
-pub odd : ℕ → Bool
-odd s = eqb (s % 2) 1
 
 shr-suc : (s d : ℕ) → s / 2 ^ suc d ≡ s / 2 / 2 ^ d
 shr-suc s d = ap (λ (k : ℕ). s / 2 ^ k) (sym (one-add d)) ∙ sym (shr-shr s 1 d)
@@ -55,11 +52,11 @@ pub same-digit : (s t : ℕ) → eqb (s % 2) 1 ≡ eqb (t % 2) 1 → s % 2 ≡ t
 same-digit s t e = ⊎-elim
     (λ (o : eqb (s % 2) 1 ≡ true). eqb-true (s % 2) 1 o ∙ sym (eqb-true (t % 2) 1 (sym e ∙ o)))
     (λ (o : eqb (s % 2) 1 ≡ false).
-      let ns : s % 2 ≡ 1 → ⊥ = eqb-false (s % 2) 1 o in
-      let nt : t % 2 ≡ 1 → ⊥ = eqb-false (t % 2) 1 (sym e ∙ o) in
-      let ls : s % 2 < 2 = mod-lt s (zero-lt-suc 1) in
-      let lt : t % 2 < 2 = mod-lt t (zero-lt-suc 1) in
-      omega arith)
+    let ns : s % 2 ≡ 1 → ⊥ = eqb-false (s % 2) 1 o in
+    let nt : t % 2 ≡ 1 → ⊥ = eqb-false (t % 2) 1 (sym e ∙ o) in
+    let ls : s % 2 < 2 = mod-lt s (zero-lt-suc 1) in
+    let lt : t % 2 < 2 = mod-lt t (zero-lt-suc 1) in
+    omega arith)
     (cases-bool (eqb (s % 2) 1))
 
 by-digits : (s t : ℕ) → s / 2 ≡ t / 2 → s % 2 ≡ t % 2 → s ≡ t
@@ -68,17 +65,17 @@ by-digits s t hi lo = sym (div-add-mod' s 2) ∙ ap₂ (λ (x y : ℕ). x * 2 + 
 no-digits : (t : ℕ) → ((d : ℕ) → has t d ≡ false) → 0 ≡ t
 no-digits =
     bin-ind (λ (t : ℕ). ((d : ℕ) → has t d ≡ false) → 0 ≡ t) (λ h. refl)
-      (λ t ih h. by-digits 0 t (ih (λ d. sym (has-suc t d) ∙ h (suc d)))
-        (same-digit 0 t (sym (sym (has-zero t) ∙ h 0))))
+    (λ t ih h. by-digits 0 t (ih (λ d. sym (has-suc t d) ∙ h (suc d)))
+    (same-digit 0 t (sym (sym (has-zero t) ∙ h 0))))
 
 -- the same test at every decision
 pub ext : (s t : ℕ) → ((d : ℕ) → has s d ≡ has t d) → s ≡ t
 ext =
     bin-ind (λ (s : ℕ). (t : ℕ) → ((d : ℕ) → has s d ≡ has t d) → s ≡ t)
-      (λ t h. no-digits t (λ d. sym (h d) ∙ has-none d))
-      (λ s ih t h. by-digits s t
-        (ih (t / 2) (λ d. sym (has-suc s d) ∙ h (suc d) ∙ has-suc t d))
-        (same-digit s t (sym (has-zero s) ∙ h 0 ∙ has-zero t)))
+    (λ t h. no-digits t (λ d. sym (h d) ∙ has-none d))
+    (λ s ih t h. by-digits s t
+    (ih (t / 2) (λ d. sym (has-suc s d) ∙ h (suc d) ∙ has-suc t d))
+    (same-digit s t (sym (has-zero s) ∙ h 0 ∙ has-zero t)))
 
 -- two tests that imply one another are equal
 pub same-test : (a b : Bool) → (a ≡ true → b ≡ true) → (b ≡ true → a ≡ true) → a ≡ b

@@ -7,7 +7,7 @@ use lib.Dec.{eqb}
 use lib.ListN.{length}
 use Rattle.sets.specs.Sets.{has, _∈_, _⊆_, _∩_, _∪_, _∖_, single, size, Between}
 use Rattle.sets.specs.Lists.{member, Ascends}
-use Rattle.sets.specs.Walks.{decisions, sets-between}
+use Rattle.sets.specs.Walks.{decisions, sets-between, sets-from}
 
 -- two sets with the same decisions are the same number
 abbrev pub Extensional : Type 0
@@ -39,8 +39,10 @@ pub record Decisions-listed : Type 0 where
   pub ascending : (s : ℕ) → Ascends (decisions s)
   pub counted : (s : ℕ) → s < 2 ^ 64 → length (decisions s) ≡ size s
 
--- the list of the sets between two sets has each of them once, ascending, and there are 2 to the number of open decisions
+-- the list of the sets between two sets has each of them once, ascending; there are 2 to the number of open decisions; and a
+-- walk that starts at the lower set has them all to come
 pub record Between-listed : Type 0 where
   pub exactly : (lower upper s : ℕ) → lower ⊆ upper → upper < 2 ^ 64 → (member s (sets-between lower upper) ≡ true) ↔ Between lower upper s
   pub ascending : (lower upper : ℕ) → Ascends (sets-between lower upper)
   pub counted : (lower upper : ℕ) → lower ⊆ upper → upper < 2 ^ 64 → length (sets-between lower upper) ≡ 2 ^ size (upper ∖ lower)
+  pub starts : (lower upper : ℕ) → lower ⊆ upper → upper < 2 ^ 64 → sets-from lower lower upper ≡ sets-between lower upper

@@ -12,7 +12,6 @@ infix 50 _⊆_
 infixl 60 _∩_
 infixl 60 _∪_
 infixl 60 _∖_
-
 -- whether bit d of s is set
 unfoldable pub has : ℕ → ℕ → Bool
 has s d = eqb (s / 2 ^ d % 2) 1

@@ -14,7 +14,11 @@ impl Decision {
     pub fn new(place: u8) -> Option<Decision>
         ensures { λ r. ⌜ Cases r (64 ≤ place) (λ d. d .place ≡ place) ⌝ }
     {
-        if place < 64 { Some(Decision { place }) } else { None }
+        if place < 64 {
+            Some(Decision { place })
+        } else {
+            None
+        }
     }
 
     pub fn place(self) -> u8

@@ -7,5 +7,4 @@ pub fn set_laws()
     ensures members { λ _. ⌜ Members ⌝ }
     ensures decisions { λ _. ⌜ Decisions-listed ⌝ }
     ensures between { λ _. ⌜ Between-listed ⌝ }
-{
-}
+{}

@@ -1,5 +1,5 @@
 ghost use mathlib.Core.Path.{_≡_};
-ghost use Prim.Native.Nat.{ℕ, _/_, _%_, _^_};
+ghost use Prim.Native.Nat.{_/_, _%_, _^_};
 ghost use Rattle.std.specs.Orderings.{Decides};
 ghost use Rattle.sets.specs.Sets.{has, _⊆_, _∩_, _∪_, _∖_, single, size};
 use crate::decision::Decision;

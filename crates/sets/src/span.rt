@@ -30,7 +30,10 @@ impl Span {
         ensures lower { λ r. ⌜ r .lower ≡ first ∩ second ⌝ }
         ensures upper { λ r. ⌜ r .upper ≡ second ⌝ }
     {
-        Span { lower: part(first, second), upper: second }
+        Span {
+            lower: part(first, second),
+            upper: second,
+        }
     }
 
     pub fn lower(self) -> Set
@@ -50,7 +53,10 @@ impl Span {
         ensures lower { λ r. ⌜ r .lower ≡ self .lower ∩ domain ⌝ }
         ensures upper { λ r. ⌜ r .upper ≡ self .upper ∩ domain ⌝ }
     {
-        Span { lower: part(self.lower, domain), upper: part(self.upper, domain) }
+        Span {
+            lower: part(self.lower, domain),
+            upper: part(self.upper, domain),
+        }
     }
 
     // Whether a set lies between the two.

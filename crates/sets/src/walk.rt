@@ -4,7 +4,7 @@ ghost use Prim.Native.Nat.{_<_, _≤_};
 ghost use Rattle.std.specs.Options.{Cases};
 ghost use Rattle.std.specs.Orderings.{Decides};
 ghost use Rattle.sets.specs.Sets.{Between};
-ghost use Rattle.sets.specs.Walks.{sets-between, sets-from, Next};
+ghost use Rattle.sets.specs.Walks.{sets-from, Next};
 use crate::set::Set;
 use crate::span::Span;
 
@@ -17,13 +17,15 @@ pub struct Walk {
 }
 
 impl Walk {
-    // At the lowest set: every set of the span is still to come.
+    // At the lowest set: every set of the span is to come.
     pub fn new(span: Span) -> Walk
         ensures span { λ r. ⌜ r .span ≡ span ⌝ }
         ensures first { λ r. ⌜ r .at ≡ span .lower ⌝ }
-        ensures all { λ r. ⌜ sets-from (r .at) (span .lower) (span .upper) ≡ sets-between (span .lower) (span .upper) ⌝ }
     {
-        Walk { span, at: span.lower() }
+        Walk {
+            span,
+            at: span.lower(),
+        }
     }
 
     // The set at which the walk stands.
@@ -56,12 +58,15 @@ impl Walk {
         ensures { λ r. ⌜ Cases r
             (sets-from (self .at) (self .span .lower) (self .span .upper) ≡ self .at ∷ [])
             (λ w. (w .span ≡ self .span)
-                × (sets-from (self .at) (self .span .lower) (self .span .upper) ≡ self .at ∷ sets-from (w .at) (self .span .lower) (self .span .upper))) ⌝ }
+            × (sets-from (self .at) (self .span .lower) (self .span .upper) ≡ self .at ∷ sets-from (w .at) (self .span .lower) (self .span .upper))) ⌝ }
     {
         if self.at_end() {
             None
         } else {
-            Some(Walk { span: self.span, at: self.successor() })
+            Some(Walk {
+                span: self.span,
+                at: self.successor(),
+            })
         }
     }
 }

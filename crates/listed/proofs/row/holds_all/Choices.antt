@@ -1,5 +1,4 @@
 use mathlib.Core.Path.{_≡_}
-use Prim.Native.Nat.{ℕ, _<_}
 use Rattle.listed.proofs.Rows.{Behind, Ahead}
 use Rattle.listed.proofs.row.holds_all.Given as given
 

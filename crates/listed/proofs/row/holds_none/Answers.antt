@@ -7,7 +7,7 @@ use Rattle.listed.proofs.row.holds_none.Needs as need
 pub returns-then-contains : need.returns-then-contains
 returns-then-contains c =
     some-stands (c .args .row .now) (c .args .span .lower) (c .args .span .upper) (c .loop-set .set-index) (c .loop-set-test .taken)
-      (c .contains .ensures .0 (c .if-contains .taken))
+    (c .contains .ensures .0 (c .if-contains .taken))
 
 pub loop-set-again : need.loop-set-again
 loop-set-again c = below-more _ _ (c .loop-set .inv) (not-from-decides (c .contains .result) (c .contains .ensures) (c .if-contains .left))

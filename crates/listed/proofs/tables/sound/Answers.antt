@@ -10,11 +10,11 @@ returns-then-ascends c =
     let k = c .args .c .now in
     let e : k .first + k .len - k .first ≡ k .len = omega arith in
     sound-inside k (c .args .sets .now) _ (c .ascends .result) (ap (λ (n : ℕ). take n (drop (k .first) (c .args .sets .now))) e)
-      (c .if-not-narrow .ensures tt .0 refl) (c .if-not-placed .ensures tt .0 refl) (c .ascends .ensures) (c .inside .result) (c .if-ascends .taken) (c .inside .ensures)
+    (c .if-not-narrow .ensures tt .0 refl) (c .if-not-placed .ensures tt .0 refl) (c .ascends .ensures) (c .inside .result) (c .if-ascends .taken) (c .inside .ensures)
 
 pub returns-else-ascends : need.returns-else-ascends
 returns-else-ascends c =
     let k = c .args .c .now in
     let e : k .first + k .len - k .first ≡ k .len = omega arith in
     sound-not k (c .args .sets .now) _ (c .ascends .result) (ap (λ (n : ℕ). take n (drop (k .first) (c .args .sets .now))) e)
-      (c .if-not-narrow .ensures tt .0 refl) (c .if-not-placed .ensures tt .0 refl) (c .ascends .ensures) (c .if-ascends .left)
+    (c .if-not-narrow .ensures tt .0 refl) (c .if-not-placed .ensures tt .0 refl) (c .ascends .ensures) (c .if-ascends .left)

@@ -16,7 +16,7 @@ by-count : (r : Option Decision) (s t : ℕ) → s < 2 ^ 64 → t ≡ trailingZe
 by-count None s t h e c = ⊎-elim (λ p. p .1) (λ p. let q = p .0 in absurd (omega arith)) (lowest-trailing 64 s h)
 by-count (Some d) s t h e c =
     ⊎-elim (λ p. let q = p .0 in let l = d .small in absurd (omega arith))
-      (λ p. subst (λ (x : ℕ). Lowest x s) (sym (c ∙ e)) (p .1)) (lowest-trailing 64 s h)
+    (λ p. subst (λ (x : ℕ). Lowest x s) (sym (c ∙ e)) (p .1)) (lowest-trailing 64 s h)
 
 pub returns : need.returns
 returns c = by-count (c .new .result) (c .args .set) (c .zeros-below .result) (omega arith) (c .zeros-below .ensures) (c .new .ensures)

@@ -1,5 +1,5 @@
 use mathlib.Core.Path.{_≡_, ap, sym, _∙_}
-use mathlib.Core.List.{List, _∷_}
+use mathlib.Core.List.{_∷_}
 use Prim.Native.Nat.{ℕ}
 use native.Mathlib.Omega.{arith}
 use lib.ListN.{length}
@@ -18,8 +18,8 @@ pub returns : need.returns
 returns c =
     let d : ℕ = c .in-Some .d .place in
     let e : decisions (c .args .self .now .rest) ≡ d ∷ decisions (c .without-self .result) =
-      lowest-first (c .args .self .now .rest) d (omega arith) (c .in-Some .ensures tt)
-      ∙ ap (λ (s : ℕ). d ∷ decisions s) (sym (c .without-self .ensures)) in
+    lowest-first (c .args .self .now .rest) d (omega arith) (c .in-Some .ensures tt)
+    ∙ ap (λ (s : ℕ). d ∷ decisions s) (sym (c .without-self .ensures)) in
     record {
       steps = e;
       goes = record { on = λ _. (tt, tt, omega (arith, ap length e)) };
