@@ -109,7 +109,7 @@ sorted-one : (b : Bool) (n : ℕ) → Sorted (cond b (n ∷ []) [])
 sorted-one true n = (tt, tt)
 sorted-one false n = tt
 
-sorted-decisions : (n s : ℕ) → Sorted (decisions-below n s)
+pub sorted-decisions : (n s : ℕ) → Sorted (decisions-below n s)
 unfolding decisions-below
 sorted-decisions zero s = tt
 sorted-decisions (suc n) s =
@@ -161,7 +161,7 @@ lowest-trailing (suc k) s h = by-digit (s % 2) refl (mod-lt s (zero-lt-suc 1)) (
     by-digit (suc zero) e l c = inr (zero-lt-suc k, (has-zero s ∙ eq-eqb (s % 2) 1 e, λ d m. zero-le))
     by-digit (suc (suc x)) e l c = absurd (not-suc-le-zero (le-of-suc-le-suc (le-of-suc-le-suc l)))
 
-pub lowest-first : (s d : ℕ) → s < 2 ^ 64 → Lowest d s → decisions s ≡ d ∷ decisions (s ∖ single d)
+pub lowest-first : (s d : ℕ) → d < 64 → Lowest d s → decisions s ≡ d ∷ decisions (s ∖ single d)
 lowest-first s d h low =
     let rest = decisions (s ∖ single d) in
     sorted-ext (decisions s) (d ∷ rest) (sorted-decisions 64 s) (
@@ -175,7 +175,7 @@ lowest-first s d h low =
     (λ ne. member-tail e d rest (to-decisions 64 (s ∖ single d) e (k .0) (keep e (k .1) ne)))
     (cases-eq d e))
     (λ e m. ⊎-elim
-    (λ (q : d ≡ e). to-decisions 64 s e (member-below 64 s e h (ap (has s) (sym q) ∙ low .0)) (ap (has s) (sym q) ∙ low .0))
+    (λ (q : d ≡ e). to-decisions 64 s e (subst (λ (x : ℕ). x < 64) q h) (ap (has s) (sym q) ∙ low .0))
     (λ n. let k = of-decisions 64 (s ∖ single d) e n in to-decisions 64 s e (k .0) (without e (k .1) .0))
     (member-cases e d rest m))
   where

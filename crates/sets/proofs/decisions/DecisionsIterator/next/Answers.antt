@@ -18,7 +18,7 @@ pub returns : need.returns
 returns c =
     let d : ℕ = c .in-Some .d .place in
     let e : decisions (c .args .self .now .rest) ≡ d ∷ decisions (c .without-self .result) =
-    lowest-first (c .args .self .now .rest) d (omega arith) (c .in-Some .ensures tt)
+    lowest-first (c .args .self .now .rest) d (c .in-Some .d .small) (c .in-Some .ensures tt)
     ∙ ap (λ (s : ℕ). d ∷ decisions s) (sym (c .without-self .ensures)) in
     record {
       steps = e;

@@ -1,0 +1,2 @@
+pub mod KiloLaws
+pub mod GradeLaws

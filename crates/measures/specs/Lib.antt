@@ -1,0 +1,3 @@
+pub mod Scales
+pub mod Kilos
+pub mod Grades

@@ -1,0 +1,3 @@
+pub mod Reach
+pub mod Carrying
+pub mod Deciding
