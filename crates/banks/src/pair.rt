@@ -8,7 +8,7 @@ use sets::span::Span;
 const MAX_COUNT: u16 = 32767;
 
 // Two banks side by side, the first one's numbers first.
-#[derive(Clone, Copy)]
+#[derive(Drop)]
 pub struct PairBank<A: Bank, B: Bank> {
     pub first: A,
     pub second: B,

@@ -27,6 +27,10 @@ d ∉ s = has s d ≡ false
 abbrev pub _⊆_ : ℕ → ℕ → Type 0
 s ⊆ t = (d : ℕ) → d ∈ s → d ∈ t
 
+-- the same as a test: a set is a subset where it is its own part in the other
+abbrev pub inside : ℕ → ℕ → Bool
+inside s t = eqb (bitAnd s t) s
+
 -- the decisions in both, in either, in the first alone
 abbrev pub _∩_ : ℕ → ℕ → ℕ
 s ∩ t = bitAnd s t

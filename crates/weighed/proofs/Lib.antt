@@ -1,3 +1,4 @@
 pub mod Reach
 pub mod Carrying
 pub mod Deciding
+pub mod Picking

@@ -1,2 +1,4 @@
 pub mod Totals
 pub mod Extremes
+pub mod Tables
+pub mod Lawful
