@@ -32,7 +32,7 @@ module _ {X : Type 0} (n k : ℕ) (first second : ℕ → X) (none : X) where
   number-none h = cond-false (ltb k 32767) _ none (le-ltb k 32767 h)
 
   -- past the count of both there is nothing
-  number-past : (m : ℕ) → ((j : ℕ) → m ≤ j → second j ≡ none) → min (n + m) 32767 ≤ k → at-number n k first second none ≡ none
+  pub number-past : (m : ℕ) → ((j : ℕ) → m ≤ j → second j ≡ none) → min (n + m) 32767 ≤ k → at-number n k first second none ≡ none
   number-past m q h =
       ⊎-elim (λ l. number-second l (omega arith) ∙ q (k - n) (omega arith)) (λ l. number-none l) (cases-lt k 32767)
 

@@ -1,5 +1,5 @@
 -- Tables of weighed conditions, element by element.
-use mathlib.Core.Path.{_≡_, refl, sym, ap, ap₂, subst, _∙_}
+use mathlib.Core.Path.{_≡_, refl, sym, ap, subst, fun-ext, _∙_}
 use mathlib.Core.Bool.{Bool, true, false, not, _&&_}
 use mathlib.Core.List.{List, [], _∷_}
 use mathlib.Core.Logic.{inr}
@@ -16,12 +16,13 @@ use Rattle.std.proofs.shelf.Elements.{all-getD, all-more}
 use Rattle.std.proofs.shelf.Lists.{drop-all}
 use Rattle.std.proofs.shelf.Tests.{both-ways, and-parts, and-from, eq-eqb}
 use Rattle.std.proofs.shelf.Ways.{decides-like}
+use Rattle.banks.specs.Meaning.{Meaning}
 use Rattle.measures.specs.Scales.{Scale, laid, Allowed, Compared}
 use Rattle.sets.specs.Sets.{_⊆_, _∩_, inside, size, Between}
 use Rattle.sets.specs.Walks.{decisions}
 use Rattle.sets.proofs.Members.{sub-and, and-second, and-sub, sub-refl, sub-trans}
 use Rattle.weighed.specs.Totals.{chosen, within}
-use Rattle.weighed.specs.Tables.{pick, row, Sound, Valid, total, balanced, all-ok, allowed, weighed, Balanced, Narrow, Placed}
+use Rattle.weighed.specs.Tables.{pick, row, Sound, Valid, total, balanced, all-ok, allowed, weighed, guarded, Narrow, Placed}
 use Rattle.weighed.specs.declared.condition.WeighedCondition.{WeighedCondition}
 use Rattle.weighed.proofs.Carrying.{row-from}
 
@@ -95,11 +96,13 @@ module _ {W T : Type 0} (s : Scale W T) where
       and-from (s .fair (c .low)) (s .fair (c .high) && all-ok s (row c ws)) (h .2)
         (and-from (s .fair (c .high)) (all-ok s (row c ws)) (h .3) (all-is-ok (row c ws) (h .4)))
 
-  -- in valid tables the families are the balanced sets
-  pub valid-balanced : (cs : List (WeighedCondition W)) (ws : List W) → Valid s cs ws → Balanced s cs ws (weighed s cs ws)
-  valid-balanced cs ws v k f =
-      pick-same (Sound s ws) (λ c. allowed s c ws && balanced s c ws f) (λ c. balanced s c ws f) false
-        (λ c h. ap (λ (b : Bool). b && balanced s c ws f) (sound-allowed ws c h)) cs k (v .1)
+  -- in valid tables every condition is allowed
+  pub valid-guarded : (cs : List (WeighedCondition W)) (ws : List W) → Valid s cs ws → guarded s cs ws ≡ weighed s cs ws
+  valid-guarded cs ws v =
+      ap {B = Meaning} (λ (families : ℕ → ℕ → Bool). record { count = length cs; domain = λ k. pick cs k (λ c. c .domain) 0; family = families })
+        (fun-ext (λ k. fun-ext (λ f.
+          pick-same (Sound s ws) (λ c. allowed s c ws && balanced s c ws f) (λ c. balanced s c ws f) false
+            (λ c h. ap (λ (b : Bool). b && balanced s c ws f) (sound-allowed ws c h)) cs k (v .1))))
 
   pub valid-narrow : (cs : List (WeighedCondition W)) (ws : List W) → Valid s cs ws → Narrow cs
   valid-narrow cs ws v k = pick-all (Sound s ws) (λ (d : ℕ). size d ≤ 12) (λ c. c .domain) 0 (λ c h. h .0) no-decisions cs k (v .1)

@@ -13,7 +13,7 @@ use Rattle.measures.specs.Scales.{Scale}
 use Rattle.sets.specs.Sets.{_⊆_, inside}
 use Rattle.sets.proofs.Members.{and-sub-of}
 use Rattle.weighed.specs.Totals.{within}
-use Rattle.weighed.specs.Tables.{pick, total, balanced, allowed, weighed, Few, Narrow}
+use Rattle.weighed.specs.Tables.{pick, total, balanced, allowed, guarded, Few, Narrow}
 use Rattle.weighed.specs.declared.condition.WeighedCondition.{WeighedCondition}
 
 pub pick-past : {X Y : Type 0} (xs : List X) (k : ℕ) (f : X → Y) (z : Y) → length xs ≤ k → pick xs k f z ≡ z
@@ -33,8 +33,8 @@ balanced-inside s ws f c h =
     let b = and-parts (allowed s c ws) (balanced s c ws f) h .1 in
     and-sub-of f (c .domain) (eqb-true (bitAnd f (c .domain)) f (and-parts (inside f (c .domain)) (within s (s .bound (c .low)) (s .bound (c .high)) (total s c ws f)) b .0))
 
-pub weighed-lawful : {W T : Type 0} (s : Scale W T) (cs : List (WeighedCondition W)) (ws : List W) → Few cs → Narrow cs → Lawful (weighed s cs ws)
-weighed-lawful s cs ws few narrow = record {
+pub guarded-lawful : {W T : Type 0} (s : Scale W T) (cs : List (WeighedCondition W)) (ws : List W) → Few cs → Narrow cs → Lawful (guarded s cs ws)
+guarded-lawful s cs ws few narrow = record {
   few = omega arith;
   narrow = narrow;
   inside = λ k f. pick-both (λ (b : Bool) (d : ℕ). b ≡ true → f ⊆ d) cs k (λ c. allowed s c ws && balanced s c ws f) false (λ c. c .domain) 0

@@ -39,7 +39,15 @@ total s c ws f = laid s (s .nothing) (chosen (decisions (c .domain)) (row c ws) 
 abbrev pub balanced : {W T : Type 0} → Scale W T → WeighedCondition W → List W → ℕ → Bool
 balanced s c ws f = inside f (c .domain) && within s (s .bound (c .low)) (s .bound (c .high)) (total s c ws f)
 
--- whether the measure allows the bounds and the weights
+-- the meaning of tables: condition k has its domain from the table, and the balanced sets as its family
+abbrev pub weighed : {W T : Type 0} → Scale W T → List (WeighedCondition W) → List W → Meaning
+weighed s cs ws = record {
+  count = length cs;
+  domain = λ k. pick cs k (λ c. c .domain) 0;
+  family = λ k f. pick cs k (λ c. balanced s c ws f) false;
+}
+
+-- whether the measure allows the bounds and the weights of a condition
 abbrev pub all-ok : {W T : Type 0} → Scale W T → List W → Bool
 all-ok s [] = true
 all-ok s (w ∷ ws) = s .ok w && all-ok s ws
@@ -47,17 +55,14 @@ all-ok s (w ∷ ws) = s .ok w && all-ok s ws
 abbrev pub allowed : {W T : Type 0} → Scale W T → WeighedCondition W → List W → Bool
 allowed s c ws = s .fair (c .low) && (s .fair (c .high) && all-ok s (row c ws))
 
--- the meaning of tables. (A condition whose bounds or weights the measure does not allow would have the empty family; no load takes one.)
-abbrev pub weighed : {W T : Type 0} → Scale W T → List (WeighedCondition W) → List W → Meaning
-weighed s cs ws = record {
+-- the meaning as a bank holds it: a condition that the measure does not allow would have the empty family. A load takes none, and for
+-- what it takes the two are the same.
+abbrev pub guarded : {W T : Type 0} → Scale W T → List (WeighedCondition W) → List W → Meaning
+guarded s cs ws = record {
   count = length cs;
   domain = λ k. pick cs k (λ c. c .domain) 0;
   family = λ k f. pick cs k (λ c. allowed s c ws && balanced s c ws f) false;
 }
-
--- the families are the balanced sets
-abbrev pub Balanced : {W T : Type 0} → Scale W T → List (WeighedCondition W) → List W → Meaning → Type 0
-Balanced s cs ws m = (k f : ℕ) → m .family k f ≡ pick cs k (λ c. balanced s c ws f) false
 
 -- the parts of validity that a bank keeps
 abbrev pub Few : {W : Type 0} → List (WeighedCondition W) → Type 0

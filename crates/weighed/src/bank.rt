@@ -8,8 +8,8 @@ ghost use Rattle.std.specs.Options.{Cases as BySome};
 ghost use Rattle.std.specs.Results.{Cases};
 ghost use Rattle.banks.specs.Meaning.{no-conditions};
 ghost use Rattle.refusals.specs.Numbers.{Says};
-ghost use Rattle.weighed.specs.Lawful.{weighed-lawful};
-ghost use Rattle.weighed.specs.Tables.{Valid, Balanced, Few, Narrow, Placed, pick, weighed};
+ghost use Rattle.weighed.specs.Lawful.{guarded-lawful};
+ghost use Rattle.weighed.specs.Tables.{Valid, Few, Narrow, Placed, weighed, guarded};
 use crate::asking::ask_always;
 use crate::asking::ask_never;
 use crate::condition::WeighedCondition;
@@ -33,7 +33,7 @@ pub struct WeighedBank<'a, M: Measure> {
 impl<'a, M: Measure> WeighedBank<'a, M> {
     // A bank with no conditions.
     pub fn new() -> WeighedBank<'a, M>
-        ensures { λ r. ⌜ weighed scale (now (r .conditions)) (now (r .weights)) ≡ no-conditions ⌝ }
+        ensures { λ r. ⌜ guarded scale (now (r .conditions)) (now (r .weights)) ≡ no-conditions ⌝ }
     {
         WeighedBank { conditions: &[], weights: &[] }
     }
@@ -42,11 +42,10 @@ impl<'a, M: Measure> WeighedBank<'a, M> {
     pub fn load(&mut self, conditions: &'a [WeighedCondition<M::Raw>], weights: &'a [M::Raw]) -> Result<(), Refusal>
         ensures { λ r. ⌜ Cases r
             (λ _. Valid scale (now (conditions .entry)) (now (weights .entry))
-                × (weighed scale (now (now (self .exit) .conditions)) (now (now (self .exit) .weights)) ≡ weighed scale (now (conditions .entry)) (now (weights .entry)))
-                × Balanced scale (now (conditions .entry)) (now (weights .entry)) (weighed scale (now (conditions .entry)) (now (weights .entry))))
+                × (guarded scale (now (now (self .exit) .conditions)) (now (now (self .exit) .weights)) ≡ weighed scale (now (conditions .entry)) (now (weights .entry))))
             (λ e. (Valid scale (now (conditions .entry)) (now (weights .entry)) → ⊥)
                 × Says e 17 []
-                × (weighed scale (now (now (self .exit) .conditions)) (now (now (self .exit) .weights)) ≡ no-conditions)) ⌝ }
+                × (guarded scale (now (now (self .exit) .conditions)) (now (now (self .exit) .weights)) ≡ no-conditions)) ⌝ }
     {
         if valid::<M>(conditions, weights) {
             self.conditions = conditions;
@@ -72,9 +71,9 @@ impl<M: Measure> WeighedBank<'_, M> {
 }
 
 pub impl<M: Measure> Bank for WeighedBank<'_, M> as WeighedConditions {
-    ghost meaning = { λ b. weighed (M·Measure .scale) (now (b .conditions)) (now (b .weights)) };
+    ghost meaning = { λ b. guarded (M·Measure .scale) (now (b .conditions)) (now (b .weights)) };
 
-    ghost lawful = { λ b. weighed-lawful (M·Measure .scale) (now (b .conditions)) (now (b .weights)) (b .few) (b .narrow) };
+    ghost lawful = { λ b. guarded-lawful (M·Measure .scale) (now (b .conditions)) (now (b .weights)) (b .few) (b .narrow) };
 
     fn count(&self) -> u16 {
         self.conditions.len() as u16

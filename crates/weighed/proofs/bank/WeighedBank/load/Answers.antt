@@ -1,5 +1,4 @@
-use mathlib.Core.Path.{refl}
-use Rattle.weighed.proofs.Picking.{valid-narrow, valid-placed, valid-balanced}
+use Rattle.weighed.proofs.Picking.{valid-narrow, valid-placed, valid-guarded}
 use Rattle.weighed.proofs.bank.WeighedBank.load.Needs as need
 
 pub ghost-self : need.ghost-self
@@ -11,4 +10,4 @@ ghost-self g c =
 pub returns-then-valid : need.returns-then-valid
 returns-then-valid g c =
     let v = c .valid .ensures .0 (c .if-valid .taken) in
-    (v, refl, valid-balanced (g .M·Measure .scale) (c .args .conditions .now) (c .args .weights .now) v)
+    (v, valid-guarded (g .M·Measure .scale) (c .args .conditions .now) (c .args .weights .now) v)

@@ -4,8 +4,8 @@ use Prim.Native.Nat.{ℕ, _≤_, _+_}
 use lib.ListN.{length}
 use Rattle.banks.proofs.PastCount.{past-always}
 use Rattle.sets.specs.Sets.{size}
-use Rattle.weighed.specs.Lawful.{weighed-lawful}
-use Rattle.weighed.specs.Tables.{weighed, allowed, balanced}
+use Rattle.weighed.specs.Lawful.{guarded-lawful}
+use Rattle.weighed.specs.Tables.{guarded, allowed, balanced}
 use Rattle.weighed.proofs.Picking.{pick-at, at-place}
 use Rattle.weighed.proofs.bank.WeighedConditions.always.Needs as need
 
@@ -20,7 +20,7 @@ ask-always-requires g c κs =
 pub returns-in-None : need.returns-in-None
 returns-in-None g c =
     let b = c .args .self .now in let s = g .M·Measure .scale in
-    past-always (weighed s (b .conditions .now) (b .weights .now)) (weighed-lawful s (b .conditions .now) (b .weights .now) (b .few) (b .narrow))
+    past-always (guarded s (b .conditions .now) (b .weights .now)) (guarded-lawful s (b .conditions .now) (b .weights .now) (b .few) (b .narrow))
       (c .args .k) (c .args .span .lower) (c .args .span .upper) (c .in-None .ensures tt)
 
 pub returns-in-Some : need.returns-in-Some

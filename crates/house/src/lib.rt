@@ -1,0 +1,3 @@
+// The house bank: five conditions in constant tables.
+pub mod bank;
+pub mod tables;
