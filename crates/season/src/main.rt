@@ -1,64 +1,35 @@
-// The season book at work: how the conditions of a small table stand while some decisions are open, and a bad table refused.
+// The season book at work: how the conditions of the house bank stand while some decisions are open, and bad tables refused.
 use banks::bank::Bank;
+use banks::pair::PairConditions;
 use banks::standing::Standing;
 use banks::verdict::standing_of;
+use house::bank::house_bank;
 use listed::bank::ListedBank;
 use listed::bank::ListedConditions;
 use listed::condition::ListedCondition;
+use measures::kilo::Kilo;
+use measures::weighing::GradeMeasure;
+use measures::weighing::KiloMeasure;
+use refusals::refusal::Refusal;
 use sets::decisions::Decisions;
 use sets::decisions::DecisionsIterator;
 use sets::set::Set;
 use sets::span::Span;
 use std::fmt;
 use std::io;
-
-// Four listed conditions, and the row of their sets.
-const CONDITIONS: [ListedCondition; 4] = [
-    // decision 0 is taken
-    ListedCondition {
-        domain: 0b0001,
-        first: 0,
-        len: 1,
-    },
-    // both of 0 and 1, or neither
-    ListedCondition {
-        domain: 0b0011,
-        first: 1,
-        len: 2,
-    },
-    // one of 1 and 2, not both
-    ListedCondition {
-        domain: 0b0110,
-        first: 3,
-        len: 2,
-    },
-    // at least one of 0 and 2
-    ListedCondition {
-        domain: 0b0101,
-        first: 5,
-        len: 3,
-    },
-];
-
-const SETS: [Set; 8] = [
-    0b0001,
-    0b0000,
-    0b0011,
-    0b0010,
-    0b0100,
-    0b0001,
-    0b0100,
-    0b0101,
-];
+use weighed::bank::WeighedBank;
+use weighed::bank::WeighedConditions;
+use weighed::condition::WeighedCondition;
 
 // A table that names one set twice.
-const DOUBLED: [ListedCondition; 1] = [ListedCondition {
-    domain: 0b0001,
-    first: 0,
-    len: 2,
-}];
+const DOUBLED: [ListedCondition; 1] = [ListedCondition { domain: 0b1, first: 0, len: 2 }];
 
-const DOUBLED_SETS: [Set; 2] = [0b0001, 0b0001];
+const DOUBLED_SETS: [Set; 2] = [0b1, 0b1];
+
+// A table with a weight of one kilo too many.
+const HEAVY: [WeighedCondition<i32>; 1] = [WeighedCondition { domain: 0b1, low: 0, high: 5, first: 0 }];
+
+const HEAVY_WEIGHTS: [i32; 1] = [1_000_001];
 
 // A set as it is printed: its decisions in braces, lowest first.
 #[derive(Drop)]
@@ -89,7 +60,7 @@ fn words(standing: Standing) -> &'static str {
 }
 
 // One line for each condition of the bank.
-fn report(rt: &impl Print, bank: &ListedBank, decided: Set, possible: Set) -> io::Result<()> {
+fn report<B: Bank>(rt: &impl Print, bank: &B, decided: Set, possible: Set) -> io::Result<()> {
     let span = Span::new(decided, possible);
     let made = Braces(span.lower());
     let left = Braces(span.upper());
@@ -101,30 +72,26 @@ fn report(rt: &impl Print, bank: &ListedBank, decided: Set, possible: Set) -> io
     Ok(())
 }
 
+// One line on a load, with the number of conditions that it left.
+fn loaded(rt: &impl Print, what: &str, load: Result<(), Refusal>, count: u16) -> io::Result<()> {
+    match load {
+        Ok(()) => println!(rt, "{what}: taken, conditions: {count}"),
+        Err(refusal) => {
+            let number = refusal.number();
+            println!(rt, "{what}: refused {number}, conditions: {count}")
+        }
+    }
+}
+
 fn main(rt: LibcRuntime) -> io::Result<()> {
-    let mut bank = ListedBank::new();
-    match bank.load(&CONDITIONS, &SETS) {
-        Ok(()) => {
-            let count = bank.count();
-            println!(rt, "tables loaded, conditions: {count}")?;
-        }
-        Err(refusal) => {
-            let number = refusal.number();
-            println!(rt, "tables refused {number}")?;
-        }
-    }
-    report(&rt, &bank, 0b0000, 0b0111)?;
-    report(&rt, &bank, 0b0001, 0b0101)?;
-    match bank.load(&DOUBLED, &DOUBLED_SETS) {
-        Ok(()) => println!(rt, "a doubled set was taken")?,
-        Err(refusal) => {
-            let number = refusal.number();
-            let count = bank.count();
-            println!(
-                rt,
-                "a set named twice: refused {number}, conditions left: {count}"
-            )?;
-        }
-    }
-    Ok(())
+    let house = house_bank();
+    report(&rt, &house, 0b000, 0b111)?;
+    report(&rt, &house, 0b001, 0b011)?;
+    report(&rt, &house, 0b100, 0b110)?;
+    let mut listed = ListedBank::new();
+    let load = listed.load(&DOUBLED, &DOUBLED_SETS);
+    loaded(&rt, "a set named twice", load, listed.count())?;
+    let mut kilos = WeighedBank::<Kilo>::new();
+    let load = kilos.load(&HEAVY, &HEAVY_WEIGHTS);
+    loaded(&rt, "a weight of 1000001 kilos", load, kilos.count())
 }
