@@ -1,5 +1,5 @@
 -- The meaning of two banks side by side, and that it is lawful.
-use mathlib.Core.Path.{_≡_, refl, sym, ap, subst, _∙_}
+use mathlib.Core.Path.{_≡_, refl, _∙_}
 use mathlib.Core.Logic.{⊎-elim}
 use mathlib.Core.Bool.{Bool, true, false, cond}
 use Prim.Native.Nat.{ℕ, _+_, _-_, _≤_, _<_, min}
@@ -44,6 +44,7 @@ number-both P n k f g x u v y p q z = outer (ltb k 32767) (inner (ltb k n))
     inner : (b : Bool) → P (cond b (f k) (g (k - n))) (cond b (u k) (v (k - n)))
     inner true = p k
     inner false = q (k - n)
+
     outer : (b : Bool) → P (cond (ltb k n) (f k) (g (k - n))) (cond (ltb k n) (u k) (v (k - n)))
         → P (cond b (cond (ltb k n) (f k) (g (k - n))) x) (cond b (cond (ltb k n) (u k) (v (k - n))) y)
     outer true h = h
@@ -53,9 +54,9 @@ pub beside-lawful : (a b : Meaning) → Lawful a → Lawful b → Lawful (beside
 beside-lawful a b la lb = record {
   few = omega arith;
   narrow = λ k. number-both (λ (d e : ℕ). size d ≤ 12) (a .count) k (a .domain) (b .domain) 0 (a .domain) (b .domain) 0
-    (la .narrow) (lb .narrow) (omega (arith, ones-le 0 0 (lit< tt)));
+      (la .narrow) (lb .narrow) (omega (arith, ones-le 0 0 (lit< tt)));
   inside = λ k f. number-both (λ (t : Bool) (d : ℕ). t ≡ true → f ⊆ d) (a .count) k (λ j. a .family j f) (λ j. b .family j f) false (a .domain) (b .domain) 0
-    (λ j. la .inside j f) (λ j. lb .inside j f) (λ h. absurd (both-ways false refl h));
+      (λ j. la .inside j f) (λ j. lb .inside j f) (λ h. absurd (both-ways false refl h));
   no-domain = λ k h. number-past (a .count) k (a .domain) (b .domain) 0 (b .count) (lb .no-domain) h;
   no-family = λ k f h. number-past (a .count) k (λ j. a .family j f) (λ j. b .family j f) false (b .count) (λ j l. lb .no-family j f l) h;
 }

@@ -1,4 +1,3 @@
-ghost use mathlib.Core.Path.{_≡_};
 ghost use Rattle.banks.specs.Beside.{beside, beside-lawful};
 use crate::bank::Bank;
 use sets::set::Set;

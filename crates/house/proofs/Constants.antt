@@ -1,16 +1,15 @@
 -- The constant tables are valid, and what they mean.
-use mathlib.Core.Path.{_≡_, refl, sym, ap, subst, fun-ext, _∙_}
-use mathlib.Core.Bool.{Bool, true, false, _&&_}
+use mathlib.Core.Path.{_≡_, refl, sym, ap, fun-ext, _∙_}
+use mathlib.Core.Bool.{Bool, false}
 use mathlib.Core.List.{List, [], _∷_}
-use mathlib.Core.Logic.{⊎-elim}
-use Prim.Native.Nat.{ℕ, zero, suc, _+_, _≤_, _<_}
+use Prim.Native.Nat.{ℕ, zero, suc, _≤_, _<_}
 use native.Mathlib.Nat.{not-suc-le-zero, le-of-suc-le-suc}
 use native.Mathlib.Omega.{arith}
 use lib.Bits.{bitAnd, and-le-r}
 use lib.Count.{ones}
 use lib.Dec.{eqb, lit<, lit≤}
 use lib.IntN.{ℤ, pos, negsuc}
-use lib.ListN.{length, getD}
+use lib.ListN.{getD}
 use Rattle.std.specs.shelf.Lists.{All}
 use Rattle.std.specs.Results.{Cases}
 use Rattle.std.specs.declared.result.Result.{Result}
@@ -18,7 +17,7 @@ use Rattle.std.specs.declared.result.Result.the-variants.{Ok, Err}
 use Rattle.std.proofs.shelf.Tests.{ne-eqb, and-left, or-from}
 use Rattle.banks.specs.Beside.{beside, at-number, number-past}
 use Rattle.banks.specs.Meaning.{Meaning}
-use Rattle.listed.specs.Tables.{listed, Valid, Sound, row, Inside}
+use Rattle.listed.specs.Tables.{listed, Valid, Sound, Inside}
 use Rattle.listed.specs.declared.condition.ListedCondition.{ListedCondition}
 use Rattle.measures.specs.Grades.{grades}
 use Rattle.measures.specs.Kilos.{kilos}
@@ -85,6 +84,7 @@ lines-mean = same-meaning 3 (listed lines sets .domain) (listed-part .domain) (l
     domains (suc zero) = refl
     domains (suc (suc zero)) = refl
     domains (suc (suc (suc k))) = refl
+
     families : (k x : ℕ) → listed lines sets .family k x ≡ listed-part .family k x
     families zero x = refl
     families (suc zero) x = refl
@@ -160,6 +160,7 @@ kilos-mean = same-meaning 1 (w.weighed kilos (kilo-line ∷ []) kilo-weights .do
     domains : (k : ℕ) → w.weighed kilos (kilo-line ∷ []) kilo-weights .domain k ≡ kilo-part .domain k
     domains zero = refl
     domains (suc k) = refl
+
     families : (k x : ℕ) → w.weighed kilos (kilo-line ∷ []) kilo-weights .family k x ≡ kilo-part .family k x
     families zero x = kilo-family x
     families (suc k) x = refl
@@ -170,6 +171,7 @@ grades-mean = same-meaning 1 (w.weighed grades (grade-line ∷ []) grade-weights
     domains : (k : ℕ) → w.weighed grades (grade-line ∷ []) grade-weights .domain k ≡ grade-part .domain k
     domains zero = refl
     domains (suc k) = refl
+
     families : (k x : ℕ) → w.weighed grades (grade-line ∷ []) grade-weights .family k x ≡ grade-part .family k x
     families zero x = grade-family x
     families (suc k) x = refl
@@ -189,7 +191,7 @@ past-number : {X : Type 0} (k : ℕ) (a b c : ℕ → X) (z : X) → ((j : ℕ) 
     → at-number 3 (suc (suc (suc (suc (suc k))))) a (λ j. at-number 1 j b c z) z ≡ z
 past-number k a b c z past =
     number-past 3 (suc (suc (suc (suc (suc k))))) a (λ j. at-number 1 j b c z) z 2
-      (λ j h. number-past 1 j b c z 1 past (omega arith)) (omega arith)
+    (λ j h. number-past 1 j b c z 1 past (omega arith)) (omega arith)
 
 pub parts-mean : beside listed-part (beside kilo-part grade-part) ≡ house
 parts-mean = same-meaning 5 (beside listed-part (beside kilo-part grade-part) .domain) (house .domain) (beside listed-part (beside kilo-part grade-part) .family) (house .family) domains families
@@ -201,6 +203,7 @@ parts-mean = same-meaning 5 (beside listed-part (beside kilo-part grade-part) .d
     domains (suc (suc (suc zero))) = refl
     domains (suc (suc (suc (suc zero)))) = refl
     domains (suc (suc (suc (suc (suc k))))) = past-number k (listed-part .domain) (kilo-part .domain) (grade-part .domain) 0 no-domain
+
     families : (k x : ℕ) → beside listed-part (beside kilo-part grade-part) .family k x ≡ house .family k x
     families zero x = refl
     families (suc zero) x = refl

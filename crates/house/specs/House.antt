@@ -34,4 +34,4 @@ grade-part = written (0b101 ∷ []) (grade-sets ∷ [])
 abbrev pub house : Meaning
 house =
     written (0b001 ∷ 0b010 ∷ 0b011 ∷ 0b111 ∷ 0b101 ∷ [])
-      ((0b001 ∷ []) ∷ (0b010 ∷ []) ∷ (0b000 ∷ 0b011 ∷ []) ∷ kilo-sets ∷ grade-sets ∷ [])
+    ((0b001 ∷ []) ∷ (0b010 ∷ []) ∷ (0b000 ∷ 0b011 ∷ []) ∷ kilo-sets ∷ grade-sets ∷ [])

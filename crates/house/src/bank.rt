@@ -5,10 +5,10 @@ ghost use Rattle.listed.specs.Tables.{listed};
 ghost use Rattle.measures.specs.Grades.{grades};
 ghost use Rattle.measures.specs.Kilos.{kilos};
 ghost use Rattle.weighed.specs.Tables.{guarded};
-use crate::tables::GRADES;
 use crate::tables::GRADE_WEIGHTS;
-use crate::tables::KILOS;
+use crate::tables::GRADES;
 use crate::tables::KILO_WEIGHTS;
+use crate::tables::KILOS;
 use crate::tables::LISTED;
 use crate::tables::SETS;
 use banks::bank::Bank;
@@ -17,14 +17,17 @@ use banks::pair::PairConditions;
 use listed::bank::ListedBank;
 use listed::bank::ListedConditions;
 use measures::grade::Grade;
+use measures::grades::GradeMeasure;
 use measures::kilo::Kilo;
-use measures::weighing::GradeMeasure;
-use measures::weighing::KiloMeasure;
+use measures::kilos::KiloMeasure;
 use weighed::bank::WeighedBank;
 use weighed::bank::WeighedConditions;
 
 // Listed conditions first, then kilos, then grades.
-pub type House = PairBank<ListedBank<'static>, PairBank<WeighedBank<'static, Kilo>, WeighedBank<'static, Grade>>>;
+pub type House = PairBank<
+    ListedBank<'static>,
+    PairBank<WeighedBank<'static, Kilo>, WeighedBank<'static, Grade>>,
+>;
 
 fn listed_bank() -> ListedBank<'static>
     ensures { λ r. ⌜ listed (now (r .conditions)) (now (r .sets)) ≡ listed-part ⌝ }
@@ -54,7 +57,13 @@ fn grade_bank() -> WeighedBank<'static, Grade>
 pub fn house_bank() -> House
     ensures { λ r. ⌜ beside (listed (now (r .first .conditions)) (now (r .first .sets)))
         (beside (guarded kilos (now (r .second .first .conditions)) (now (r .second .first .weights)))
-            (guarded grades (now (r .second .second .conditions)) (now (r .second .second .weights)))) ≡ house ⌝ }
+        (guarded grades (now (r .second .second .conditions)) (now (r .second .second .weights)))) ≡ house ⌝ }
 {
-    PairBank { first: listed_bank(), second: PairBank { first: kilo_bank(), second: grade_bank() } }
+    PairBank {
+        first: listed_bank(),
+        second: PairBank {
+            first: kilo_bank(),
+            second: grade_bank(),
+        },
+    }
 }

@@ -1,5 +1,5 @@
 -- The laws of a measure, for kilos: twelve weights never reach the ends of 32 bits.
-use mathlib.Core.Path.{_≡_, refl, sym, ap, ap₂, subst, _∙_}
+use mathlib.Core.Path.{_≡_, sym, ap, ap₂, subst, _∙_}
 use mathlib.Core.Bool.{true, false}
 use mathlib.Core.List.{List, [], _∷_}
 use Prim.Native.Nat.{ℕ, _≤_, _+_, _*_}
@@ -55,7 +55,7 @@ in-laid : (n : ℕ) (t : Kilo) (ws : List ℤ) → In n (t .value) → Allowed k
 in-laid n t [] p a h = subst (λ (m : ℕ). In m (t .value)) (omega arith) p
 in-laid n t (w ∷ ws) p a h =
     subst (λ (m : ℕ). In m (laid kilos (kilo-lay t w) ws .value)) (omega arith)
-      (in-laid (n + 1) (kilo-lay t w) ws (in-lay n t w p (a .0) (omega arith)) (a .1) (omega arith))
+    (in-laid (n + 1) (kilo-lay t w) ws (in-lay n t w p (a .0) (omega arith)) (a .1) (omega arith))
 
 in-wider : (m n : ℕ) (z : ℤ) → m ≤ n → In m z → In n z
 in-wider m n z h p = let a = p .0 in let b = p .1 in (omega (arith, ints), omega (arith, ints))
@@ -64,9 +64,9 @@ in-total : (n : ℕ) (t : Kilo) → n ≤ 12 → Total kilos n t → In n (t .va
 in-total n t h p =
     let l = p .1 in
     in-wider (length (p .0)) n (t .value) l
-      (subst (λ (k : Kilo). In (length (p .0)) (k .value)) (sym (p .3))
-        (subst (λ (m : ℕ). In m (laid kilos no-kilo (p .0) .value)) (omega arith)
-          (in-laid 0 no-kilo (p .0) (omega (arith, ints), omega (arith, ints)) (p .2) (omega arith))))
+    (subst (λ (k : Kilo). In (length (p .0)) (k .value)) (sym (p .3))
+    (subst (λ (m : ℕ). In m (laid kilos no-kilo (p .0) .value)) (omega arith)
+    (in-laid 0 no-kilo (p .0) (omega (arith, ints), omega (arith, ints)) (p .2) (omega arith))))
 
 -- two weights laid on in turn are the plain sum
 twice : (t : Kilo) (v w : ℤ) → Total kilos 10 t → kilo-ok v ≡ true → kilo-ok w ≡ true → kilo-lay (kilo-lay t v) w .value ≡ t .value +ℤ v +ℤ w
@@ -81,16 +81,16 @@ pub kilo-laws : Laws kilos
 kilo-laws = record {
   either = λ s t p q h. yes-le (t .value) (s .value) (no-le (s .value) (t .value) h);
   transitive = λ r s t p q u h k.
-    let a = le-yes (r .value) (s .value) h in
-    let b = le-yes (s .value) (t .value) k in
-    yes-le (r .value) (t .value) (omega (arith, ints));
+      let a = le-yes (r .value) (s .value) h in
+      let b = le-yes (s .value) (t .value) k in
+      yes-le (r .value) (t .value) (omega (arith, ints));
   exchange = λ t v w p a b.
-    let e : kilo-lay (kilo-lay t v) w .value ≡ kilo-lay (kilo-lay t w) v .value = twice t v w p a b ∙ omega (arith, ints) ∙ sym (twice t w v p b a) in
-    (same-le (kilo-lay (kilo-lay t v) w .value) (kilo-lay (kilo-lay t w) v .value) e, same-le (kilo-lay (kilo-lay t w) v .value) (kilo-lay (kilo-lay t v) w .value) (sym e));
+      let e : kilo-lay (kilo-lay t v) w .value ≡ kilo-lay (kilo-lay t w) v .value = twice t v w p a b ∙ omega (arith, ints) ∙ sym (twice t w v p b a) in
+      (same-le (kilo-lay (kilo-lay t v) w .value) (kilo-lay (kilo-lay t w) v .value) e, same-le (kilo-lay (kilo-lay t w) v .value) (kilo-lay (kilo-lay t v) w .value) (sym e));
   monotone = λ s t w p q o h.
-    let a = le-yes (s .value) (t .value) h in
-    let x = plain 11 s w (in-total 11 s (omega arith) p) o (omega arith) in
-    let y = plain 11 t w (in-total 11 t (omega arith) q) o (omega arith) in
-    let b : (s .value +ℤ w) ≤ℤ (t .value +ℤ w) = omega (arith, ints) in
-    ap₂ leZ x y ∙ yes-le (s .value +ℤ w) (t .value +ℤ w) b;
+      let a = le-yes (s .value) (t .value) h in
+      let x = plain 11 s w (in-total 11 s (omega arith) p) o (omega arith) in
+      let y = plain 11 t w (in-total 11 t (omega arith) q) o (omega arith) in
+      let b : (s .value +ℤ w) ≤ℤ (t .value +ℤ w) = omega (arith, ints) in
+      ap₂ leZ x y ∙ yes-le (s .value +ℤ w) (t .value +ℤ w) b;
 }

@@ -7,9 +7,9 @@ use house::bank::house_bank;
 use listed::bank::ListedBank;
 use listed::bank::ListedConditions;
 use listed::condition::ListedCondition;
+use measures::grades::GradeMeasure;
 use measures::kilo::Kilo;
-use measures::weighing::GradeMeasure;
-use measures::weighing::KiloMeasure;
+use measures::kilos::KiloMeasure;
 use refusals::refusal::Refusal;
 use sets::decisions::Decisions;
 use sets::decisions::DecisionsIterator;
@@ -22,12 +22,21 @@ use weighed::bank::WeighedConditions;
 use weighed::condition::WeighedCondition;
 
 // A table that names one set twice.
-const DOUBLED: [ListedCondition; 1] = [ListedCondition { domain: 0b1, first: 0, len: 2 }];
+const DOUBLED: [ListedCondition; 1] = [ListedCondition {
+    domain: 0b1,
+    first: 0,
+    len: 2,
+}];
 
 const DOUBLED_SETS: [Set; 2] = [0b1, 0b1];
 
 // A table with a weight of one kilo too many.
-const HEAVY: [WeighedCondition<i32>; 1] = [WeighedCondition { domain: 0b1, low: 0, high: 5, first: 0 }];
+const HEAVY: [WeighedCondition<i32>; 1] = [WeighedCondition {
+    domain: 0b1,
+    low: 0,
+    high: 5,
+    first: 0,
+}];
 
 const HEAVY_WEIGHTS: [i32; 1] = [1_000_001];
 

@@ -9,9 +9,8 @@ use native.Mathlib.Omega.{arith}
 use lib.ListN.{length, getD, take, drop, length-take, length-drop}
 use lib.Seq.{take-length}
 use Rattle.std.specs.Orderings.{Decides}
-use Rattle.std.specs.shelf.Lists.{All}
 use Rattle.std.proofs.shelf.Elements.{all-weaker, all-take, all-drop, all-getD}
-use Rattle.std.proofs.shelf.Tests.{both-ways, cases-bool, and-parts, and-from, and-cases, and-left, and-right, or-cases, or-parts, not-true, not-false}
+use Rattle.std.proofs.shelf.Tests.{both-ways, cases-bool, and-parts, and-from, and-left, and-right, or-cases, or-parts, not-true, not-false}
 use Rattle.measures.specs.Scales.{Scale, Laws, laid, Allowed, Total, Compared}
 use Rattle.sets.specs.Sets.{has, _∈_, _∉_, _⊆_, _∪_, _∖_, single, Between}
 use Rattle.sets.proofs.Ascending.{Sorted}
@@ -29,7 +28,7 @@ module _ {W T : Type 0} (s : Scale W T) where
   total-laid n t [] p a = total-wider s n (n + 0) t (omega arith) p
   total-laid n t (x ∷ xs) p a =
       total-wider s (n + 1 + length xs) (n + length (x ∷ xs)) (laid s (s .lay t x) xs) (omega arith)
-        (total-laid (n + 1) (s .lay t x) xs (total-lay s n t x p (a .0)) (a .1))
+      (total-laid (n + 1) (s .lay t x) xs (total-lay s n t x p (a .0)) (a .1))
 
   chosen-allowed : (ds : List ℕ) (ws : List W) (f : ℕ) → Allowed s ws → Allowed s (chosen ds ws f)
   chosen-allowed [] ws f a = tt
@@ -52,7 +51,7 @@ module _ {W T : Type 0} (s : Scale W T) where
   compared-chosen : (n : ℕ) (t : T) (ds : List ℕ) (ws : List W) (f : ℕ) → Total s n t → n + length ws ≤ 12 → Allowed s ws → Compared s (laid s t (chosen ds ws f))
   compared-chosen n t ds ws f p h a =
       compared s (n + length (chosen ds ws f)) (laid s t (chosen ds ws f)) (omega (arith, chosen-length ds ws f))
-        (total-laid n t (chosen ds ws f) p (chosen-allowed ds ws f a))
+      (total-laid n t (chosen ds ws f) p (chosen-allowed ds ws f a))
 
   module _ (laws : Laws s) (lo up : ℕ) (nested : lo ⊆ up) (low high : T) (cl : Compared s low) (ch : Compared s high)
       (ds : List ℕ) (ws : List W) (sorted : Sorted ds) (n : ℕ) (t : T) (p : Total s n t) (fits : n + length ws ≤ 12) (a : Allowed s ws) where
@@ -75,31 +74,32 @@ module _ {W T : Type 0} (s : Scale W T) where
     toward-all : (e : End) (f : ℕ) → Between lo up f → toward e s (ends e) (laid s t (chosen ds ws f)) ≡ true
     toward-all e f b =
         reach s (toward e s) (directed s e laws) lo up n ds ws t t f b p p fits a
-          (reflexive s (toward e s) (directed s e laws) t (compared s n t (omega arith) p))
+        (reflexive s (toward e s) (directed s e laws) t (compared s n t (omega arith) p))
 
     -- every set hits exactly where the least is not below the lower bound and the greatest not above the upper one
     pub hits-by-ends : (x y : Bool) → x ≡ s .le low (ends Least) → y ≡ s .le (ends Greatest) high → Decides (x && y) (Hits s lo up low high ds ws t)
-    hits-by-ends x y ex ey =
-        ( (λ e f b.
-            let q = and-parts x y e in
-            and-from (s .le low (laid s t (chosen ds ws f))) (s .le (laid s t (chosen ds ws f)) high)
-              (laws .transitive low (ends Least) (laid s t (chosen ds ws f)) cl (cend Least) (csum f) (sym ex ∙ q .0) (toward-all Least f b))
-              (laws .transitive (laid s t (chosen ds ws f)) (ends Greatest) high (csum f) (cend Greatest) ch (toward-all Greatest f b) (sym ey ∙ q .1))),
-          (λ h. and-from x y
-            (ex ∙ ap (s .le low) (ended Least .2) ∙ and-parts (s .le low (laid s t (chosen ds ws (ended Least .0)))) (s .le (laid s t (chosen ds ws (ended Least .0))) high) (h (ended Least .0) (ended Least .1)) .0)
-            (ey ∙ ap (λ (u : T). s .le u high) (ended Greatest .2) ∙ and-parts (s .le low (laid s t (chosen ds ws (ended Greatest .0)))) (s .le (laid s t (chosen ds ws (ended Greatest .0))) high) (h (ended Greatest .0) (ended Greatest .1)) .1)) )
+    hits-by-ends x y ex ey = (
+      (λ e f b.
+          let q = and-parts x y e in
+          and-from (s .le low (laid s t (chosen ds ws f))) (s .le (laid s t (chosen ds ws f)) high)
+          (laws .transitive low (ends Least) (laid s t (chosen ds ws f)) cl (cend Least) (csum f) (sym ex ∙ q .0) (toward-all Least f b))
+          (laws .transitive (laid s t (chosen ds ws f)) (ends Greatest) high (csum f) (cend Greatest) ch (toward-all Greatest f b) (sym ey ∙ q .1))),
+      (λ h. and-from x y
+          (ex ∙ ap (s .le low) (ended Least .2) ∙ and-parts (s .le low (laid s t (chosen ds ws (ended Least .0)))) (s .le (laid s t (chosen ds ws (ended Least .0))) high) (h (ended Least .0) (ended Least .1)) .0)
+          (ey ∙ ap (λ (u : T). s .le u high) (ended Greatest .2) ∙ and-parts (s .le low (laid s t (chosen ds ws (ended Greatest .0)))) (s .le (laid s t (chosen ds ws (ended Greatest .0))) high) (h (ended Greatest .0) (ended Greatest .1)) .1)),
+    )
 
     -- no set hits where the least is above the upper bound, or the greatest below the lower one
     pub misses-apart : (r : Bool) → r ≡ (not (s .le (ends Least) high) || not (s .le low (ends Greatest))) → r ≡ true → Misses s lo up low high ds ws t
     misses-apart r e h f b =
         ⊎-elim
-          (λ m. and-right (s .le low (laid s t (chosen ds ws f))) (s .le (laid s t (chosen ds ws f)) high)
-            (no (s .le (laid s t (chosen ds ws f)) high) (λ k. both-ways (s .le (ends Least) high) (not-true (s .le (ends Least) high) m)
-              (laws .transitive (ends Least) (laid s t (chosen ds ws f)) high (cend Least) (csum f) ch (toward-all Least f b) k))))
-          (λ m. and-left (s .le low (laid s t (chosen ds ws f))) (s .le (laid s t (chosen ds ws f)) high)
-            (no (s .le low (laid s t (chosen ds ws f))) (λ k. both-ways (s .le low (ends Greatest)) (not-true (s .le low (ends Greatest)) m)
-              (laws .transitive low (laid s t (chosen ds ws f)) (ends Greatest) cl (csum f) (cend Greatest) k (toward-all Greatest f b)))))
-          (or-cases (not (s .le (ends Least) high)) (not (s .le low (ends Greatest))) (sym e ∙ h))
+        (λ m. and-right (s .le low (laid s t (chosen ds ws f))) (s .le (laid s t (chosen ds ws f)) high)
+        (no (s .le (laid s t (chosen ds ws f)) high) (λ k. both-ways (s .le (ends Least) high) (not-true (s .le (ends Least) high) m)
+        (laws .transitive (ends Least) (laid s t (chosen ds ws f)) high (cend Least) (csum f) ch (toward-all Least f b) k))))
+        (λ m. and-left (s .le low (laid s t (chosen ds ws f))) (s .le (laid s t (chosen ds ws f)) high)
+        (no (s .le low (laid s t (chosen ds ws f))) (λ k. both-ways (s .le low (ends Greatest)) (not-true (s .le low (ends Greatest)) m)
+        (laws .transitive low (laid s t (chosen ds ws f)) (ends Greatest) cl (csum f) (cend Greatest) k (toward-all Greatest f b)))))
+        (or-cases (not (s .le (ends Least) high)) (not (s .le low (ends Greatest))) (sym e ∙ h))
       where
         no : (b : Bool) → (b ≡ true → ⊥) → b ≡ false
         no true k = absurd (k refl)
@@ -113,10 +113,11 @@ module _ {W T : Type 0} (s : Scale W T) where
     misses-end ds ws t r none same e h =
         let q = or-parts (not (s .le (extreme s (toward Least s) lo up ds ws t) high)) (not (s .le low (extreme s (toward Greatest s) lo up ds ws t))) (sym e ∙ h) in
         let above : s .le t high ≡ true = ap (λ (u : T). s .le u high) (sym (same Least)) ∙ not-false (s .le (extreme s (toward Least s) lo up ds ws t) high) (q .0) in
-        let below : s .le low t ≡ true = ap (s .le low) (sym (same Greatest)) ∙ not-false (s .le low (extreme s (toward Greatest s) lo up ds ws t)) (q .1) in
-        ( (λ x. absurd (both-ways false refl x)),
+        let below : s .le low t ≡ true = ap (s .le low) (sym (same Greatest)) ∙ not-false (s .le low (extreme s (toward Greatest s) lo up ds ws t)) (q .1) in (
+          (λ x. absurd (both-ways false refl x)),
           (λ m. absurd (both-ways (within s low high (laid s t (chosen ds ws lo))) (m lo (sub-refl lo, nested))
-            (ap (λ (xs : List W). within s low high (laid s t xs)) (none lo) ∙ and-from (s .le low t) (s .le t high) below above))) )
+              (ap (λ (xs : List W). within s low high (laid s t xs)) (none lo) ∙ and-from (s .le low t) (s .le t high) below above))),
+        )
 
     -- one decision more
     module _ (d : ℕ) (ds : List ℕ) (w : W) (ws : List W) (t : T) (sorted : Sorted (d ∷ ds)) where
@@ -164,9 +165,10 @@ module _ {W T : Type 0} (s : Scale W T) where
       to-more = subst (Misses s lo up low high es ys) more
 
       pub decided-in : d ∈ lo → (r : Bool) → Decides r (Misses s lo up low high es ys u) → Decides r (Misses s lo up low high ds xs t)
-      decided-in i r k =
-          ( (λ e. fold (misses-both d es w ys t sorted′ (inl i) (inr (to-more (k .0 e))))),
-            (λ m. k .1 (subst (Misses s lo up low high es ys) (sym more) (misses-with d es w ys t sorted′ (nested d i) (unfold′ m)))) )
+      decided-in i r k = (
+        (λ e. fold (misses-both d es w ys t sorted′ (inl i) (inr (to-more (k .0 e))))),
+        (λ m. k .1 (subst (Misses s lo up low high es ys) (sym more) (misses-with d es w ys t sorted′ (nested d i) (unfold′ m)))),
+      )
 
       pub decided-fails : d ∉ lo → (r : Bool) → Decides r (Misses s lo up low high es ys t) → r ≡ false → Decides false (Misses s lo up low high ds xs t)
       decided-fails o r k e =
@@ -174,9 +176,10 @@ module _ {W T : Type 0} (s : Scale W T) where
 
       pub decided-both : d ∈ up → (q r : Bool) → Decides q (Misses s lo up low high es ys t) → q ≡ true
           → Decides r (Misses s lo up low high es ys u) → Decides r (Misses s lo up low high ds xs t)
-      decided-both i q r j y k =
-          ( (λ e. fold (misses-both d es w ys t sorted′ (inr (j .0 y)) (inr (to-more (k .0 e))))),
-            (λ m. k .1 (subst (Misses s lo up low high es ys) (sym more) (misses-with d es w ys t sorted′ i (unfold′ m)))) )
+      decided-both i q r j y k = (
+        (λ e. fold (misses-both d es w ys t sorted′ (inr (j .0 y)) (inr (to-more (k .0 e))))),
+        (λ m. k .1 (subst (Misses s lo up low high es ys) (sym more) (misses-with d es w ys t sorted′ i (unfold′ m)))),
+      )
 
       pub decided-out : d ∉ up → (q : Bool) → Decides q (Misses s lo up low high es ys t) → q ≡ true → Decides true (Misses s lo up low high ds xs t)
       decided-out o q j y = ((λ _. fold (misses-both d es w ys t sorted′ (inr (j .0 y)) (inl o))), (λ _. refl))
@@ -209,5 +212,5 @@ pub laid-on : {W T : Type 0} (s : Scale W T) (row : List W) (t : T) (w : W) (u :
 laid-on s row t w u k e more l a p =
     let n = row-tail-length row in
     subst (Total s (12 - length (take (length row - 1) (drop 1 row)))) (sym more)
-      (total-wider s (12 - length row + 1) (12 - length (take (length row - 1) (drop 1 row))) (s .lay t w) (omega arith)
-        (total-lay s (12 - length row) t w p (ap (s .ok) e ∙ all-getD (λ v. s .ok v ≡ true) row 0 w k a)))
+    (total-wider s (12 - length row + 1) (12 - length (take (length row - 1) (drop 1 row))) (s .lay t w) (omega arith)
+    (total-lay s (12 - length row) t w p (ap (s .ok) e ∙ all-getD (λ v. s .ok v ≡ true) row 0 w k a)))

@@ -9,7 +9,6 @@ use native.Mathlib.Omega.{arith}
 use lib.Count.{ones-le}
 use lib.Dec.{lit<}
 use lib.ListN.{length, getD, take, drop}
-use lib.Seq.{take-all}
 use Rattle.std.specs.Orderings.{Decides}
 use Rattle.std.specs.shelf.Lists.{All}
 use Rattle.std.proofs.shelf.Elements.{all-getD, all-more}
@@ -18,7 +17,7 @@ use Rattle.std.proofs.shelf.Tests.{both-ways, and-parts, and-from, eq-eqb}
 use Rattle.std.proofs.shelf.Ways.{decides-like}
 use Rattle.banks.specs.Meaning.{Meaning}
 use Rattle.measures.specs.Scales.{Scale, laid, Allowed, Compared}
-use Rattle.sets.specs.Sets.{_⊆_, _∩_, inside, size, Between}
+use Rattle.sets.specs.Sets.{_⊆_, _∩_, size, Between}
 use Rattle.sets.specs.Walks.{decisions}
 use Rattle.sets.proofs.Members.{sub-and, and-second, and-sub, sub-refl, sub-trans}
 use Rattle.weighed.specs.Totals.{chosen, within}
@@ -83,26 +82,27 @@ module _ {W T : Type 0} (s : Scale W T) where
   -- a condition is sound once its bounds and weights are allowed
   pub sound-by : (c : WeighedCondition W) (ws xs : List W) (r : Bool) → xs ≡ row c ws → size (c .domain) ≤ 12 → c .first + size (c .domain) ≤ length ws
       → r ≡ (s .fair (c .low) && (s .fair (c .high) && all-ok s xs)) → Decides r (Sound s ws c)
-  sound-by c ws xs r e narrow placed is =
-      ( (λ y.
-          let p = and-parts (s .fair (c .low)) (s .fair (c .high) && all-ok s xs) (sym is ∙ y) in
-          let q = and-parts (s .fair (c .high)) (all-ok s xs) (p .1) in
-          (narrow, placed, p .0, q .0, subst (Allowed s) e (ok-all xs (q .1)))),
-        (λ h. is ∙ and-from (s .fair (c .low)) (s .fair (c .high) && all-ok s xs) (h .2)
-          (and-from (s .fair (c .high)) (all-ok s xs) (h .3) (all-is-ok xs (subst (Allowed s) (sym e) (h .4))))) )
+  sound-by c ws xs r e narrow placed is = (
+    (λ y.
+        let p = and-parts (s .fair (c .low)) (s .fair (c .high) && all-ok s xs) (sym is ∙ y) in
+        let q = and-parts (s .fair (c .high)) (all-ok s xs) (p .1) in
+        (narrow, placed, p .0, q .0, subst (Allowed s) e (ok-all xs (q .1)))),
+    (λ h. is ∙ and-from (s .fair (c .low)) (s .fair (c .high) && all-ok s xs) (h .2)
+        (and-from (s .fair (c .high)) (all-ok s xs) (h .3) (all-is-ok xs (subst (Allowed s) (sym e) (h .4))))),
+  )
 
   sound-allowed : (ws : List W) (c : WeighedCondition W) → Sound s ws c → allowed s c ws ≡ true
   sound-allowed ws c h =
       and-from (s .fair (c .low)) (s .fair (c .high) && all-ok s (row c ws)) (h .2)
-        (and-from (s .fair (c .high)) (all-ok s (row c ws)) (h .3) (all-is-ok (row c ws) (h .4)))
+      (and-from (s .fair (c .high)) (all-ok s (row c ws)) (h .3) (all-is-ok (row c ws) (h .4)))
 
   -- in valid tables every condition is allowed
   pub valid-guarded : (cs : List (WeighedCondition W)) (ws : List W) → Valid s cs ws → guarded s cs ws ≡ weighed s cs ws
   valid-guarded cs ws v =
       ap {B = Meaning} (λ (families : ℕ → ℕ → Bool). record { count = length cs; domain = λ k. pick cs k (λ c. c .domain) 0; family = families })
-        (fun-ext (λ k. fun-ext (λ f.
-          pick-same (Sound s ws) (λ c. allowed s c ws && balanced s c ws f) (λ c. balanced s c ws f) false
-            (λ c h. ap (λ (b : Bool). b && balanced s c ws f) (sound-allowed ws c h)) cs k (v .1))))
+      (fun-ext (λ k. fun-ext (λ f.
+      pick-same (Sound s ws) (λ c. allowed s c ws && balanced s c ws f) (λ c. balanced s c ws f) false
+      (λ c h. ap (λ (b : Bool). b && balanced s c ws f) (sound-allowed ws c h)) cs k (v .1))))
 
   pub valid-narrow : (cs : List (WeighedCondition W)) (ws : List W) → Valid s cs ws → Narrow cs
   valid-narrow cs ws v k = pick-all (Sound s ws) (λ (d : ℕ). size d ≤ 12) (λ c. c .domain) 0 (λ c h. h .0) no-decisions cs k (v .1)
@@ -128,8 +128,8 @@ module _ {W T : Type 0} (s : Scale W T) where
         → Decides r ((f : ℕ) → Between (lo ∩ c .domain) (up ∩ c .domain) f → (allowed s c ws && balanced s c ws f) ≡ want)
     asked a want r e y =
         decides-like r
-          (λ h f b. ap (λ (x : Bool). x && balanced s c ws f) (e ∙ y) ∙ balanced-is f b ∙ h f b)
-          (λ h f b. sym (balanced-is f b) ∙ sym (ap (λ (x : Bool). x && balanced s c ws f) (e ∙ y)) ∙ h f b)
+        (λ h f b. ap (λ (x : Bool). x && balanced s c ws f) (e ∙ y) ∙ balanced-is f b ∙ h f b)
+        (λ h f b. sym (balanced-is f b) ∙ sym (ap (λ (x : Bool). x && balanced s c ws f) (e ∙ y)) ∙ h f b)
 
     pub not-allowed : (a : Bool) → allowed s c ws ≡ a → a ≡ false → (f : ℕ) → (allowed s c ws && balanced s c ws f) ≡ false
     not-allowed a e n f = ap (λ (x : Bool). x && balanced s c ws f) (e ∙ n)
@@ -148,22 +148,23 @@ module _ {W T : Type 0} (s : Scale W T) where
         → Decides r ((f : ℕ) → Between (lo ∩ c .domain) (up ∩ c .domain) f → (allowed s c ws && balanced s c ws f) ≡ want)
     answered want r y d =
         asked c ws lo up a want r allowed-is y
-          (subst (λ (t : T). Decides r ((f : ℕ) → Between (lo ∩ c .domain) (up ∩ c .domain) f → within s (s .bound (c .low)) (s .bound (c .high)) (laid s t (chosen (decisions (c .domain)) (row c ws) f)) ≡ want)) is-z
-          (subst (λ (t : T). Decides r ((f : ℕ) → Between (lo ∩ c .domain) (up ∩ c .domain) f → within s (s .bound (c .low)) t (laid s z (chosen (decisions (c .domain)) (row c ws) f)) ≡ want)) is-high
-          (subst (λ (t : T). Decides r ((f : ℕ) → Between (lo ∩ c .domain) (up ∩ c .domain) f → within s t high (laid s z (chosen (decisions (c .domain)) (row c ws) f)) ≡ want)) is-low
-          (subst (λ (n : ℕ). Decides r ((f : ℕ) → Between (lo ∩ c .domain) n f → within s low high (laid s z (chosen (decisions (c .domain)) (row c ws) f)) ≡ want)) is-u
-          (subst (λ (n : ℕ). Decides r ((f : ℕ) → Between n u f → within s low high (laid s z (chosen (decisions (c .domain)) (row c ws) f)) ≡ want)) is-l
-          (subst (λ (ys : List W). Decides r ((f : ℕ) → Between l u f → within s low high (laid s z (chosen (decisions (c .domain)) ys f)) ≡ want)) is-row d))))))
+        (subst (λ (t : T). Decides r ((f : ℕ) → Between (lo ∩ c .domain) (up ∩ c .domain) f → within s (s .bound (c .low)) (s .bound (c .high)) (laid s t (chosen (decisions (c .domain)) (row c ws) f)) ≡ want)) is-z
+        (subst (λ (t : T). Decides r ((f : ℕ) → Between (lo ∩ c .domain) (up ∩ c .domain) f → within s (s .bound (c .low)) t (laid s z (chosen (decisions (c .domain)) (row c ws) f)) ≡ want)) is-high
+        (subst (λ (t : T). Decides r ((f : ℕ) → Between (lo ∩ c .domain) (up ∩ c .domain) f → within s t high (laid s z (chosen (decisions (c .domain)) (row c ws) f)) ≡ want)) is-low
+        (subst (λ (n : ℕ). Decides r ((f : ℕ) → Between (lo ∩ c .domain) n f → within s low high (laid s z (chosen (decisions (c .domain)) (row c ws) f)) ≡ want)) is-u
+        (subst (λ (n : ℕ). Decides r ((f : ℕ) → Between n u f → within s low high (laid s z (chosen (decisions (c .domain)) (row c ws) f)) ≡ want)) is-l
+        (subst (λ (ys : List W). Decides r ((f : ℕ) → Between l u f → within s low high (laid s z (chosen (decisions (c .domain)) ys f)) ≡ want)) is-row d))))))
 
     -- where they are not allowed, the family is empty, and some set is asked about
     pub never-allowed : a ≡ false → (f : ℕ) → (allowed s c ws && balanced s c ws f) ≡ false
     never-allowed n f = not-allowed c ws lo up a allowed-is n f
 
     pub not-always : lo ⊆ up → a ≡ false → Decides false ((f : ℕ) → Between (lo ∩ c .domain) (up ∩ c .domain) f → (allowed s c ws && balanced s c ws f) ≡ true)
-    not-always nested n =
-        ( (λ e. absurd (both-ways false refl e)),
-          (λ h. absurd (both-ways (allowed s c ws && balanced s c ws (lo ∩ c .domain)) (never-allowed n (lo ∩ c .domain))
-            (h (lo ∩ c .domain) (sub-refl (lo ∩ c .domain), and-sub lo up (c .domain) nested)))) )
+    not-always nested n = (
+      (λ e. absurd (both-ways false refl e)),
+      (λ h. absurd (both-ways (allowed s c ws && balanced s c ws (lo ∩ c .domain)) (never-allowed n (lo ∩ c .domain))
+          (h (lo ∩ c .domain) (sub-refl (lo ∩ c .domain), and-sub lo up (c .domain) nested)))),
+    )
 
     -- what the totals ask of the figures
     allowed-parts : a ≡ true → (s .fair (c .low) ≡ true) × (s .fair (c .high) ≡ true) × (all-ok s xs ≡ true)
@@ -189,5 +190,5 @@ module _ {X : Type 0} (xs : List X) (dom : X → ℕ) (family : X → ℕ → Bo
   at-place x want r h e =
       let same : pick xs k dom 0 ≡ dom x = pick-at xs k dom 0 x h e in
       decides-like r
-        (λ g f b. pick-at xs k (λ y. family y f) false x h e ∙ g f (subst (λ (n : ℕ). Between (lo ∩ n) (up ∩ n) f) same b))
-        (λ g f b. sym (pick-at xs k (λ y. family y f) false x h e) ∙ g f (subst (λ (n : ℕ). Between (lo ∩ n) (up ∩ n) f) (sym same) b))
+      (λ g f b. pick-at xs k (λ y. family y f) false x h e ∙ g f (subst (λ (n : ℕ). Between (lo ∩ n) (up ∩ n) f) same b))
+      (λ g f b. sym (pick-at xs k (λ y. family y f) false x h e) ∙ g f (subst (λ (n : ℕ). Between (lo ∩ n) (up ∩ n) f) (sym same) b))

@@ -3,14 +3,13 @@
 use mathlib.Core.Path.{_≡_, refl, sym, ap, ap₂, subst, _∙_}
 use mathlib.Core.Bool.{Bool, true, false, not, cond, _&&_, _||_}
 use mathlib.Core.List.{List, [], _∷_, _++_}
-use mathlib.Core.Logic.{_⊎_, inl, inr, ⊎-elim}
-use Prim.Native.Nat.{ℕ, suc, _+_, _≤_, _<_}
+use mathlib.Core.Logic.{_⊎_, inl, ⊎-elim}
+use Prim.Native.Nat.{ℕ, _+_, _≤_, _<_}
 use native.Mathlib.Omega.{arith}
-use lib.Dec.{eqb}
 use lib.ListN.{length, length-append}
 use Rattle.std.specs.shelf.Lists.{All}
 use Rattle.std.proofs.shelf.Elements.{all-push, all-weaker}
-use Rattle.std.proofs.shelf.Tests.{both-ways, cases-bool, eq-eqb, ne-eqb, eqb-true, or-cases, or-left, or-right, and-parts}
+use Rattle.std.proofs.shelf.Tests.{both-ways, cases-bool, eq-eqb, ne-eqb, eqb-true, or-cases, or-right, and-parts}
 use Rattle.measures.specs.Scales.{Scale, Laws, laid, Allowed, Total, Compared}
 use Rattle.sets.specs.Sets.{has, _∈_, _∉_, _⊆_, _∪_, _∖_, single, Between}
 use Rattle.sets.proofs.Ascending.{Sorted}
@@ -58,15 +57,17 @@ without-out f d =
 
 -- a decision that the upper set has may join a set between, and one that the lower set lacks may leave it
 pub between-with : (lo up f d : ℕ) → Between lo up f → d ∈ up → Between lo up (f ∪ single d)
-between-with lo up f d b i =
-    ( (λ e m. or-first f (single d) e (b .0 e m)),
-      (λ e m. ⊎-elim (λ (a : e ∈ f). b .1 e a) (λ (a : e ∈ single d). ap (has up) (eqb-true e d (sym (has-single d e) ∙ a)) ∙ i)
-        (or-cases (has f e) (has (single d) e) (sym (has-or f (single d) e) ∙ m))) )
+between-with lo up f d b i = (
+  (λ e m. or-first f (single d) e (b .0 e m)),
+  (λ e m. ⊎-elim (λ (a : e ∈ f). b .1 e a) (λ (a : e ∈ single d). ap (has up) (eqb-true e d (sym (has-single d e) ∙ a)) ∙ i)
+      (or-cases (has f e) (has (single d) e) (sym (has-or f (single d) e) ∙ m))),
+)
 
 pub between-without : (lo up f d : ℕ) → Between lo up f → d ∉ lo → Between lo up (f ∖ single d)
-between-without lo up f d b o =
-    ( (λ e m. has-without f d e (λ q. both-ways (has lo e) (ap (has lo) q ∙ o) m) ∙ b .0 e m),
-      (λ e m. b .1 e (and-parts (has f e) (not (has (single d) e)) (sym (has-minus f (single d) e) ∙ m) .0)) )
+between-without lo up f d b o = (
+  (λ e m. has-without f d e (λ q. both-ways (has lo e) (ap (has lo) q ∙ o) m) ∙ b .0 e m),
+  (λ e m. b .1 e (and-parts (has f e) (not (has (single d) e)) (sym (has-minus f (single d) e) ∙ m) .0)),
+)
 
 -- ---- totals of few weights
 
@@ -82,11 +83,12 @@ module _ {W T : Type 0} (s : Scale W T) where
   total-wider m n t h p = (p .0, let l = p .1 in omega arith, p .2, p .3)
 
   pub total-lay : (n : ℕ) (t : T) (w : W) → Total s n t → s .ok w ≡ true → Total s (n + 1) (s .lay t w)
-  total-lay n t w p o =
-      ( p .0 ++ w ∷ [],
-        (let l = p .1 in omega (arith, length-append (p .0) (w ∷ []))),
-        all-push (λ v. s .ok v ≡ true) (p .0) w (p .2) o,
-        ap (λ (u : T). s .lay u w) (p .3) ∙ sym (laid-push (s .nothing) (p .0) w) )
+  total-lay n t w p o = (
+    p .0 ++ w ∷ [],
+    (let l = p .1 in omega (arith, length-append (p .0) (w ∷ []))),
+    all-push (λ v. s .ok v ≡ true) (p .0) w (p .2) o,
+    ap (λ (u : T). s .lay u w) (p .3) ∙ sym (laid-push (s .nothing) (p .0) w),
+  )
 
   pub compared : (n : ℕ) (t : T) → n ≤ 12 → Total s n t → Compared s t
   compared n t h p = inl (total-wider n 12 t h p)
@@ -111,13 +113,13 @@ module _ {W T : Type 0} (s : Scale W T) where
 
     nearer-first : (t u : T) → Compared s t → Compared s u → le (nearer le t u) t ≡ true
     nearer-first t u p q = ⊎-elim
-      (λ e. subst (λ (b : Bool). le (cond b t u) t ≡ true) (sym e) (reflexive t p))
-      (λ e. subst (λ (b : Bool). le (cond b t u) t ≡ true) (sym e) (o .either t u p q e)) (cases-bool (le t u))
+        (λ e. subst (λ (b : Bool). le (cond b t u) t ≡ true) (sym e) (reflexive t p))
+        (λ e. subst (λ (b : Bool). le (cond b t u) t ≡ true) (sym e) (o .either t u p q e)) (cases-bool (le t u))
 
     nearer-second : (t u : T) → Compared s t → Compared s u → le (nearer le t u) u ≡ true
     nearer-second t u p q = ⊎-elim
-      (λ e. subst (λ (b : Bool). le (cond b t u) u ≡ true) (sym e) e)
-      (λ e. subst (λ (b : Bool). le (cond b t u) u ≡ true) (sym e) (reflexive u q)) (cases-bool (le t u))
+        (λ e. subst (λ (b : Bool). le (cond b t u) u ≡ true) (sym e) e)
+        (λ e. subst (λ (b : Bool). le (cond b t u) u ≡ true) (sym e) (reflexive u q)) (cases-bool (le t u))
 
     total-nearer : (n : ℕ) (t u : T) → Total s n t → Total s n u → Total s n (nearer le t u)
     total-nearer n t u p q = pick (le t u)
@@ -132,8 +134,10 @@ module _ {W T : Type 0} (s : Scale W T) where
         where
           more : Total s (n + 1) (s .lay t w)
           more = total-lay n t w p a
+
           same : Total s (n + 1) t
           same = total-wider n (n + 1) t (omega arith) p
+
           pick : (b c : Bool) → Total s (n + 1) (cond b (s .lay t w) (cond c (nearer le t (s .lay t w)) t))
           pick true c = more
           pick false true = total-nearer (n + 1) t (s .lay t w) same more
@@ -157,16 +161,22 @@ module _ {W T : Type 0} (s : Scale W T) where
         where
           ct : Compared s t
           ct = compared n t (omega arith) p
+
           cu : Compared s u
           cu = compared n u (omega arith) q
+
           cm : Compared s (s .lay t w)
           cm = compared (n + 1) (s .lay t w) h (total-lay n t w p a)
+
           cv : Compared s (s .lay u w)
           cv = compared (n + 1) (s .lay u w) h (total-lay n u w q a)
+
           cn : Compared s (nearer le t (s .lay t w))
           cn = compared (n + 1) (nearer le t (s .lay t w)) h (total-nearer (n + 1) t (s .lay t w) (total-wider n (n + 1) t (omega arith) p) (total-lay n t w p a))
+
           both : le (s .lay t w) (s .lay u w) ≡ true
           both = o .monotone t u w (total-wider n 11 t (omega arith) p) (total-wider n 11 u (omega arith) q) a l
+
           pick : (x y z : Bool) → (x ≡ true → y ≡ true) → (y ≡ true → z ≡ true)
               → le (cond x (s .lay t w) (cond z (nearer le t (s .lay t w)) t)) (cond y (s .lay u w) u) ≡ true
           pick true true z f g = both
@@ -190,8 +200,8 @@ module _ {W T : Type 0} (s : Scale W T) where
       reach n (d ∷ ds) [] t u f b p q h a l = l
       reach n (d ∷ ds) (w ∷ ws) t u f b p q h a l =
           subst (λ (v : T). le (extreme s le lo up ds ws (settled s le lo up d t w)) v ≡ true) (step-laid f d u w ds ws)
-            (reach (n + 1) ds ws (settled s le lo up d t w) (step f d u w) f b (total-settled n d t w p (a .0)) (total-step n f d u w q (a .0)) (omega arith) (a .1)
-              (settled-toward n f d t u w b p q (omega arith) (a .0) l))
+          (reach (n + 1) ds ws (settled s le lo up d t w) (step f d u w) f b (total-settled n d t w p (a .0)) (total-step n f d u w q (a .0)) (omega arith) (a .1)
+          (settled-toward n f d t u w b p q (omega arith) (a .0) l))
 
       -- and one of theirs
       pub attained : lo ⊆ up → (ds : List ℕ) (ws : List W) (t : T) → Sorted ds → (f : ℕ) × Between lo up f × (extreme s le lo up ds ws t ≡ laid s t (chosen ds ws f))
@@ -204,20 +214,27 @@ module _ {W T : Type 0} (s : Scale W T) where
         where
           apart : (f g : ℕ) → ((e : ℕ) → (e ≡ d → ⊥) → has g e ≡ has f e) → chosen ds ws f ≡ chosen ds ws g
           apart f g h = chosen-same ds ws f g (all-weaker (λ e. d < e) (λ e. has f e ≡ has g e) (λ e l. sym (h e (λ q. omega arith))) ds (k .0))
+
           taken : (f : ℕ) → d ∈ f → laid s (s .lay t w) (chosen ds ws f) ≡ laid s t (chosen (d ∷ ds) (w ∷ ws) f)
           taken f m = subst (λ (b : Bool). laid s (s .lay t w) (chosen ds ws f) ≡ laid s t (cond b (w ∷ chosen ds ws f) (chosen ds ws f))) (sym m) refl
+
           left : (f : ℕ) → d ∉ f → laid s t (chosen ds ws f) ≡ laid s t (chosen (d ∷ ds) (w ∷ ws) f)
           left f m = subst (λ (b : Bool). laid s t (chosen ds ws f) ≡ laid s t (cond b (w ∷ chosen ds ws f) (chosen ds ws f))) (sym m) refl
+
           pick : (x z n : Bool) → has lo d ≡ x → has up d ≡ z → (f : ℕ) → Between lo up f
               → extreme s le lo up ds ws (cond x (s .lay t w) (cond z (cond n t (s .lay t w)) t)) ≡ laid s (cond x (s .lay t w) (cond z (cond n t (s .lay t w)) t)) (chosen ds ws f)
               → (g : ℕ) × Between lo up g × (extreme s le lo up ds ws (cond x (s .lay t w) (cond z (cond n t (s .lay t w)) t)) ≡ laid s t (chosen (d ∷ ds) (w ∷ ws) g))
           pick true z n i j f b e = (f, b, e ∙ taken f (b .0 d i))
-          pick false true true i j f b e =
-              (f ∖ single d, between-without lo up f d b i,
-                e ∙ ap (laid s t) (apart f (f ∖ single d) (has-without f d)) ∙ left (f ∖ single d) (without-out f d))
-          pick false true false i j f b e =
-              (f ∪ single d, between-with lo up f d b j,
-                e ∙ ap (laid s (s .lay t w)) (apart f (f ∪ single d) (has-with f d)) ∙ taken (f ∪ single d) (with-in f d))
+          pick false true true i j f b e = (
+            f ∖ single d,
+            between-without lo up f d b i,
+            e ∙ ap (laid s t) (apart f (f ∖ single d) (has-without f d)) ∙ left (f ∖ single d) (without-out f d),
+          )
+          pick false true false i j f b e = (
+            f ∪ single d,
+            between-with lo up f d b j,
+            e ∙ ap (laid s (s .lay t w)) (apart f (f ∪ single d) (has-with f d)) ∙ taken (f ∪ single d) (with-in f d),
+          )
           pick false false n i j f b e = (f, b, e ∙ left f (out (has f d) (b .1 d)))
             where
               out : (y : Bool) → (y ≡ true → has up d ≡ true) → y ≡ false

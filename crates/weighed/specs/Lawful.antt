@@ -38,7 +38,7 @@ guarded-lawful s cs ws few narrow = record {
   few = omega arith;
   narrow = narrow;
   inside = λ k f. pick-both (λ (b : Bool) (d : ℕ). b ≡ true → f ⊆ d) cs k (λ c. allowed s c ws && balanced s c ws f) false (λ c. c .domain) 0
-    (balanced-inside s ws f) (λ h. absurd (both-ways false refl h));
+      (balanced-inside s ws f) (λ h. absurd (both-ways false refl h));
   no-domain = λ k h. pick-past cs k (λ c. c .domain) 0 h;
   no-family = λ k f h. pick-past cs k (λ c. allowed s c ws && balanced s c ws f) false h;
 }

@@ -7,7 +7,7 @@ use lib.ListN.{length, take, drop}
 use Rattle.std.specs.shelf.Lists.{All}
 use Rattle.banks.specs.Meaning.{Meaning}
 use Rattle.measures.specs.Scales.{Scale, laid, Allowed}
-use Rattle.sets.specs.Sets.{inside, size, Between}
+use Rattle.sets.specs.Sets.{inside, size}
 use Rattle.sets.specs.Walks.{decisions}
 use Rattle.weighed.specs.Totals.{chosen, within}
 use Rattle.weighed.specs.declared.condition.WeighedCondition.{WeighedCondition}

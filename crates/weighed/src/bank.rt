@@ -1,15 +1,15 @@
 ghost use mathlib.Core.Path.{_≡_};
-ghost use mathlib.Core.Bool.{true, false, _&&_};
 ghost use mathlib.Core.List.{[]};
 ghost use denote.Ref.{now};
-ghost use Prim.Native.Nat.{ℕ, _<_, _≤_};
+ghost use Prim.Native.Nat.{_<_, _≤_};
 ghost use lib.ListN.{length, getD};
 ghost use Rattle.std.specs.Options.{Cases as BySome};
+ghost use Rattle.std.specs.Orderings.{Decides};
 ghost use Rattle.std.specs.Results.{Cases};
-ghost use Rattle.banks.specs.Meaning.{no-conditions};
+ghost use Rattle.banks.specs.Meaning.{no-conditions, Always, Never};
 ghost use Rattle.refusals.specs.Numbers.{Says};
 ghost use Rattle.weighed.specs.Lawful.{guarded-lawful};
-ghost use Rattle.weighed.specs.Tables.{Valid, Few, Narrow, Placed, weighed, guarded};
+ghost use Rattle.weighed.specs.Tables.{Valid, Few, Narrow, Placed, pick, weighed, guarded};
 use crate::asking::ask_always;
 use crate::asking::ask_never;
 use crate::condition::WeighedCondition;
@@ -35,17 +35,24 @@ impl<'a, M: Measure> WeighedBank<'a, M> {
     pub fn new() -> WeighedBank<'a, M>
         ensures { λ r. ⌜ guarded scale (now (r .conditions)) (now (r .weights)) ≡ no-conditions ⌝ }
     {
-        WeighedBank { conditions: &[], weights: &[] }
+        WeighedBank {
+            conditions: &[],
+            weights: &[],
+        }
     }
 
     // Takes the tables if they are valid; else refuses them, and the bank has no conditions.
-    pub fn load(&mut self, conditions: &'a [WeighedCondition<M::Raw>], weights: &'a [M::Raw]) -> Result<(), Refusal>
+    pub fn load(
+        &mut self,
+        conditions: &'a [WeighedCondition<M::Raw>],
+        weights: &'a [M::Raw],
+    ) -> Result<(), Refusal>
         ensures { λ r. ⌜ Cases r
             (λ _. Valid scale (now (conditions .entry)) (now (weights .entry))
-                × (guarded scale (now (now (self .exit) .conditions)) (now (now (self .exit) .weights)) ≡ weighed scale (now (conditions .entry)) (now (weights .entry))))
+            × (guarded scale (now (now (self .exit) .conditions)) (now (now (self .exit) .weights)) ≡ weighed scale (now (conditions .entry)) (now (weights .entry))))
             (λ e. (Valid scale (now (conditions .entry)) (now (weights .entry)) → ⊥)
-                × Says e 17 []
-                × (guarded scale (now (now (self .exit) .conditions)) (now (now (self .exit) .weights)) ≡ no-conditions)) ⌝ }
+            × Says e 17 []
+            × (guarded scale (now (now (self .exit) .conditions)) (now (now (self .exit) .weights)) ≡ no-conditions)) ⌝ }
     {
         if valid::<M>(conditions, weights) {
             self.conditions = conditions;
@@ -66,7 +73,38 @@ impl<M: Measure> WeighedBank<'_, M> {
             (λ c. (k < length (now (now (self .entry) .conditions))) × (c ≡ getD (now (now (self .entry) .conditions)) k c)) ⌝ }
     {
         let k = k as usize;
-        if k < self.conditions.len() { Some(self.conditions[k]) } else { None }
+        if k < self.conditions.len() {
+            Some(self.conditions[k])
+        } else {
+            None
+        }
+    }
+
+    fn domain_at(&self, k: u16) -> Set
+        ensures { λ r. ⌜ r ≡ pick (now (now (self .entry) .conditions)) k (λ c. c .domain) 0 ⌝ }
+    {
+        match self.at(k) {
+            None => 0,
+            Some(c) => c.domain,
+        }
+    }
+
+    fn always_at(&self, k: u16, span: Span) -> bool
+        ensures { λ r. ⌜ Decides r (Always (guarded scale (now (now (self .entry) .conditions)) (now (now (self .entry) .weights))) k (span .lower) (span .upper)) ⌝ }
+    {
+        match self.at(k) {
+            None => false,
+            Some(c) => ask_always::<M>(c, self.weights, span),
+        }
+    }
+
+    fn never_at(&self, k: u16, span: Span) -> bool
+        ensures { λ r. ⌜ Decides r (Never (guarded scale (now (now (self .entry) .conditions)) (now (now (self .entry) .weights))) k (span .lower) (span .upper)) ⌝ }
+    {
+        match self.at(k) {
+            None => true,
+            Some(c) => ask_never::<M>(c, self.weights, span),
+        }
     }
 }
 
@@ -80,23 +118,14 @@ pub impl<M: Measure> Bank for WeighedBank<'_, M> as WeighedConditions {
     }
 
     fn domain(&self, k: u16) -> Set {
-        match self.at(k) {
-            None => 0,
-            Some(c) => c.domain,
-        }
+        self.domain_at(k)
     }
 
     fn always(&self, k: u16, span: Span) -> bool {
-        match self.at(k) {
-            None => false,
-            Some(c) => ask_always::<M>(c, self.weights, span),
-        }
+        self.always_at(k, span)
     }
 
     fn never(&self, k: u16, span: Span) -> bool {
-        match self.at(k) {
-            None => true,
-            Some(c) => ask_never::<M>(c, self.weights, span),
-        }
+        self.never_at(k, span)
     }
 }

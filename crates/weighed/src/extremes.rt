@@ -1,4 +1,6 @@
 ghost use mathlib.Core.Path.{_≡_};
+ghost use Prim.Native.Nat.{_<_};
+ghost use lib.ListN.{length, getD};
 ghost use Rattle.sets.specs.Walks.{decisions};
 ghost use Rattle.weighed.specs.Extremes.{toward, nearer as nearest, settled, extreme};
 use crate::end::End;
@@ -40,18 +42,26 @@ fn settle<M: Measure>(end: End, span: Span, d: Decision, t: M, w: M::Raw) -> M
     t
 }
 
+// The weight at place i of a row.
+fn weight_at<R: Copy>(row: &[R], i: usize) -> R
+    requires { ⌜ i < length (now row) ⌝ }
+    ensures { λ r. ⌜ r ≡ getD (now (row .entry)) i r ⌝ }
+{
+    row[i]
+}
+
 // The least or greatest total over the sets of the span, from a total to start with, for the decisions of a domain with one weight each.
 pub(crate) fn furthest<M: Measure>(end: End, span: Span, domain: Set, row: &[M::Raw], start: M) -> M
     ensures { λ r. ⌜ r ≡ extreme scale (toward end scale) (span .lower) (span .upper) (decisions domain) (now (row .entry)) start ⌝ }
 {
     let mut t = start;
     let mut rest = domain;
-    for w in row {
+    for i in 0..row.len() {
         let Some(d) = lowest(rest) else {
             return t;
         };
         rest = without(rest, d);
-        t = settle(end, span, d, t, *w);
+        t = settle(end, span, d, t, weight_at(row, i));
     }
     t
 }

@@ -11,6 +11,7 @@ use sets::set::count;
 
 // The most conditions that one table may have, and the most decisions in a domain.
 const MAX_CONDITIONS: usize = 256;
+
 const MAX_DOMAIN: u32 = 12;
 
 fn narrow(domain: Set) -> bool

@@ -46,7 +46,14 @@ fn apart<M: Measure>(span: Span, domain: Set, row: &[M::Raw], t: M, low: M, high
 }
 
 // Whether no set of the span brings the total t between the bounds. A branch whose least and greatest totals can't meet them is cut off.
-pub(crate) fn misses<M: Measure>(span: Span, domain: Set, row: &[M::Raw], t: M, low: M, high: M) -> bool
+pub(crate) fn misses<M: Measure>(
+    span: Span,
+    domain: Set,
+    row: &[M::Raw],
+    t: M,
+    low: M,
+    high: M,
+) -> bool
     requires few { ⌜ length (now row) ≤ 12 ⌝ }
     requires allowed { ⌜ Allowed scale (now row) ⌝ }
     requires started { ⌜ Total scale (12 - length (now row)) t ⌝ }

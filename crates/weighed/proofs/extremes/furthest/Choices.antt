@@ -5,8 +5,8 @@ use Rattle.weighed.specs.Extremes.{toward, extreme}
 use Rattle.weighed.proofs.extremes.furthest.Given as given
 
 -- what is still to be settled comes to what the whole comes to
-abbrev pub Inv-loop-w : given.InvT-loop-w
-Inv-loop-w g l =
+abbrev pub Inv-loop-i : given.InvT-loop-i
+Inv-loop-i g l =
     let s = g .M·Measure .scale in
-    extreme s (toward (l .end) s) (l .span .lower) (l .span .upper) (decisions (l .rest)) (drop (l .w-index) (l .row)) (l .t)
+    extreme s (toward (l .end) s) (l .span .lower) (l .span .upper) (decisions (l .rest)) (drop (l .i) (l .row)) (l .t)
     ≡ extreme s (toward (l .end) s) (l .span .lower) (l .span .upper) (decisions (l .domain)) (l .row) (l .entry .t)

@@ -11,4 +11,4 @@ returns g c =
     let k = c .args .c .now in
     let e : k .first + c .count .result - k .first ≡ size (k .domain) = omega (arith, c .count .ensures) in
     sound-by (g .M·Measure .scale) k (c .args .weights .now) _ (c .allows .result) (ap (λ (n : ℕ). take n (drop (k .first) (c .args .weights .now))) e)
-      (c .if-not-narrow .ensures tt .0 refl) (c .if-not-placed .ensures tt .0 refl) (c .allows .ensures)
+    (c .if-not-narrow .ensures tt .0 refl) (c .if-not-placed .ensures tt .0 refl) (c .allows .ensures)

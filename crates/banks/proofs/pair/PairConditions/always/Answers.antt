@@ -8,4 +8,4 @@ returns-then-k-ge-MAX-COUNT g c =
     let a = g .A·Bank .meaning (c .args .self .now .first) in
     let b = g .B·Bank .meaning (c .args .self .now .second) in
     past-always (beside a b) (beside-lawful a b (g .A·Bank .lawful (c .args .self .now .first)) (g .B·Bank .lawful (c .args .self .now .second)))
-      (c .args .k) (c .args .span .lower) (c .args .span .upper) (omega arith)
+    (c .args .k) (c .args .span .lower) (c .args .span .upper) (omega arith)

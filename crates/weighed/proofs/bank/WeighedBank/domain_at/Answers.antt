@@ -1,7 +1,7 @@
 use mathlib.Core.Path.{sym}
 use Rattle.weighed.specs.Lawful.{pick-past}
 use Rattle.weighed.proofs.Picking.{pick-at}
-use Rattle.weighed.proofs.bank.WeighedConditions.domain.Needs as need
+use Rattle.weighed.proofs.bank.WeighedBank.domain_at.Needs as need
 
 pub returns-in-None : need.returns-in-None
 returns-in-None g c = sym (pick-past (c .args .self .now .conditions .now) (c .args .k) (λ x. x .domain) 0 (c .in-None .ensures tt))

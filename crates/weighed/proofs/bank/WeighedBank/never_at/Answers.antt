@@ -6,7 +6,7 @@ use Rattle.sets.specs.Sets.{size}
 use Rattle.weighed.specs.Lawful.{pick-past}
 use Rattle.weighed.specs.Tables.{allowed, balanced}
 use Rattle.weighed.proofs.Picking.{pick-at, at-place}
-use Rattle.weighed.proofs.bank.WeighedConditions.never.Needs as need
+use Rattle.weighed.proofs.bank.WeighedBank.never_at.Needs as need
 
 pub ask-never-requires : need.ask-never-requires
 ask-never-requires g c κs =
@@ -25,4 +25,4 @@ pub returns-in-Some : need.returns-in-Some
 returns-in-Some g c =
     let b = c .args .self .now in let s = g .M·Measure .scale in let p = c .in-Some .ensures tt in
     at-place (b .conditions .now) (λ x. x .domain) (λ x f. allowed s x (b .weights .now) && balanced s x (b .weights .now) f)
-      (c .args .k) (c .args .span .lower) (c .args .span .upper) (c .in-Some .c) false (c .ask-never .result) (p .0) (p .1) (c .ask-never .ensures)
+    (c .args .k) (c .args .span .lower) (c .args .span .upper) (c .in-Some .c) false (c .ask-never .result) (p .0) (p .1) (c .ask-never .ensures)
