@@ -1,7 +1,7 @@
 -- Sets of decisions. A decision is a number from 0 to 63, and a set is a number whose bit d says that decision d is in it.
 use mathlib.Core.Path.{_≡_}
-use mathlib.Core.Bool.{Bool, true, false}
-use Prim.Native.Nat.{ℕ, _/_, _%_, _^_, _≤_}
+use mathlib.Core.Bool.{Bool, true, false, cond}
+use Prim.Native.Nat.{ℕ, zero, suc, _+_, _*_, _/_, _%_, _^_, _≤_}
 use lib.Bits.{bitAnd, bitOr, bitXor}
 use lib.Count.{ones}
 use lib.Dec.{eqb}
@@ -56,3 +56,8 @@ Lowest d s = (d ∈ s) × ((e : ℕ) → e ∈ s → d ≤ e)
 -- s lies between two sets: it has each decision of the lower one, and none that the upper one lacks
 abbrev pub Between : ℕ → ℕ → ℕ → Type 0
 Between lower upper s = (lower ⊆ s) × (s ⊆ upper)
+
+-- the set of those decisions below n that pass a test
+unfoldable pub collect : ℕ → (ℕ → Bool) → ℕ
+collect zero p = 0
+collect (suc n) p = collect n (λ d. p (suc d)) * 2 + cond (p 0) 1 0

@@ -1,0 +1,7 @@
+pub mod Between
+pub mod Each
+pub mod Core
+pub mod Carry
+pub mod Bearing
+pub mod Answer
+pub mod Ways

@@ -1,0 +1,5 @@
+pub mod Rules
+pub mod Published
+pub mod Rounds
+pub mod Theorems
+pub mod Tests
