@@ -20,6 +20,16 @@ pub fn contains(set: Set, d: Decision) -> bool
     bit(set, d) == 1
 }
 
+// Whether a number is that of a decision in the set; none from 64 on is.
+pub fn contains_place(set: Set, place: u8) -> bool
+    ensures { λ r. ⌜ r ≡ has set place ⌝ }
+{
+    match Decision::new(place) {
+        Some(d) => contains(set, d),
+        None => false,
+    }
+}
+
 // The part of `set` inside `other`.
 pub fn intersection(set: Set, other: Set) -> Set
     ensures { λ r. ⌜ r ≡ set ∩ other ⌝ }

@@ -1,0 +1,4 @@
+pub mod AtOneSet
+pub mod Passing
+pub mod Growing
+pub mod Stamping
