@@ -1,14 +1,15 @@
 ghost use mathlib.Core.Path.{_≡_};
 ghost use mathlib.Core.Bool.{true, cond, _&&_};
-ghost use Prim.Native.Nat.{ℕ, _<_};
+ghost use Prim.Native.Nat.{ℕ, _^_, _<_};
 ghost use lib.Dec.{eqb};
 ghost use lib.ListN.{length, getD};
 ghost use Rattle.std.specs.Options.{Cases};
 ghost use Rattle.std.specs.Orderings.{Decides};
 ghost use Rattle.std.specs.shelf.Lists.{All};
-ghost use Rattle.sets.specs.Sets.{has};
+ghost use Rattle.sets.specs.Sets.{has, _∈_, _∉_};
 ghost use Rattle.answer_sets.specs.Rounds.{Rounds};
-ghost use Rattle.answer_sets.specs.Rules.{Keeps, Borne};
+ghost use Rattle.answer_sets.specs.Published.{AnswerSet-by, program};
+ghost use Rattle.answer_sets.specs.Rules.{Keeps, Borne, complement};
 ghost use Rattle.answer_sets.specs.Tests.{derives};
 ghost use Rattle.rules.specs.Shapes.{way-of, rules-of};
 ghost use Rattle.judge.specs.Reached.{Stamped};
@@ -65,7 +66,7 @@ fn all_ranked(ranks: &[u8], set: Set) -> bool
 }
 
 // The ranks of the rounds where some ranks bear the set, and none where none do.
-pub fn rank_set<B: Bank>(bank: &B, way: Way, rules: &[Rule], set: Set) -> Option<[u8; 64]>
+fn find_ranks<B: Bank>(bank: &B, way: Way, rules: &[Rule], set: Set) -> Option<[u8; 64]>
     ensures { λ r. ⌜ Cases r
         (Borne (meaning (now (bank .entry))) (way-of way) (rules-of (now (rules .entry))) set → ⊥)
         (λ ranks. Rounds (meaning (now (bank .entry))) (way-of way) (rules-of (now (rules .entry))) set ranks) ⌝ }
@@ -78,4 +79,20 @@ pub fn rank_set<B: Bank>(bank: &B, way: Way, rules: &[Rule], set: Set) -> Option
         return None;
     }
     Some(ranks)
+}
+
+// The same in public: ranks come exactly where the set is an answer set by that way, they are the rounds, and by complement every other
+// set that keeps the rules has a decision that this one lacks.
+pub fn rank_set<B: Bank>(bank: &B, way: Way, rules: &[Rule], set: Set) -> Option<[u8; 64]>
+    ensures rounds { λ r. ⌜ Cases r
+        (Borne (meaning (now (bank .entry))) (way-of way) (rules-of (now (rules .entry))) set → ⊥)
+        (λ ranks. Rounds (meaning (now (bank .entry))) (way-of way) (rules-of (now (rules .entry))) set ranks) ⌝ }
+    ensures published { λ r. ⌜ Cases r
+        (AnswerSet-by (way-of way) (program (meaning (now (bank .entry))) (rules-of (now (rules .entry)))) set → ⊥)
+        (λ _. AnswerSet-by (way-of way) (program (meaning (now (bank .entry))) (rules-of (now (rules .entry)))) set) ⌝ }
+    ensures minimal { λ r. ⌜ Cases r (Unit {0})
+        (λ _. way-of way ≡ complement → (n : ℕ) → n < 2 ^ 64 → All (Keeps (meaning (now (bank .entry))) n) (rules-of (now (rules .entry)))
+            → (n ≡ set → ⊥) → (d : ℕ) × (d ∈ n) × (d ∉ set)) ⌝ }
+{
+    find_ranks(bank, way, rules, set)
 }
