@@ -14,7 +14,7 @@ use Rattle.sets.specs.Sets.{has, _∈_, _∉_, _⊆_, _∩_, inside}
 use Rattle.banks.specs.Meaning.{Meaning}
 use Rattle.answer_sets.specs.Rules.{Way, reduct, complement, Head, decision, no-head, Rule, holds, HeadIn, Keeps, Carried, Can-give, Gives, rank, below, Bears, Borne}
 use Rattle.answer_sets.specs.Theorems.{Minimal, Complement-reduct, Given}
-use Rattle.answer_sets.specs.Tests.{allb, anyb, derives, round}
+use Rattle.answer_sets.specs.Tests.{allb, anyb, derives, round, in-head, keepsb, borneb}
 use Rattle.sets.proofs.Members.{sub-antisym, sub-and, and-sub-of, member-below}
 use Rattle.sets.proofs.Collecting.{outsider}
 use Rattle.answer_sets.proofs.Each.{allb-all, all-allb, anyb-any, any-anyb, all-to, any-to, any-all, any-out}
@@ -82,50 +82,40 @@ module _ (m : Meaning) (w : Way) (rules : List Rule) (M : ℕ) (M< : M < 2 ^ 64)
 
   -- ---- a test
 
-  abbrev pub in-head : Head → Bool
-  in-head (decision d) = has M d
-  in-head no-head = false
-
-  in-head-sound : (h : Head) → in-head h ≡ true → HeadIn h M
+  in-head-sound : (h : Head) → in-head M h ≡ true → HeadIn h M
   in-head-sound (decision d) e = e
   in-head-sound no-head e = absurd (both-ways false refl e)
 
-  in-head-complete : (h : Head) → HeadIn h M → in-head h ≡ true
+  in-head-complete : (h : Head) → HeadIn h M → in-head M h ≡ true
   in-head-complete (decision d) e = e
   in-head-complete no-head e = absurd e
 
-  abbrev pub keepsb : Rule → Bool
-  keepsb r = mathlib.Core.Bool._||_ (in-head (r .head)) (anyb (λ e. not (holds m e M)) (r .body))
-
-  pub keeps-sound : (r : Rule) → keepsb r ≡ true → Keeps m M r
+  pub keeps-sound : (r : Rule) → keepsb m M r ≡ true → Keeps m M r
   keeps-sound r e = ⊎-elim
       (λ h. inl (in-head-sound (r .head) h))
       (λ h. inr (anyb-any (λ e. not (holds m e M)) (λ e. holds m e M ≡ false) (λ x k. not-true (holds m x M) k) (r .body) h))
-      (or-cases (in-head (r .head)) (anyb (λ e. not (holds m e M)) (r .body)) e)
+      (or-cases (in-head M (r .head)) (anyb (λ e. not (holds m e M)) (r .body)) e)
 
-  pub keeps-complete : (r : Rule) → Keeps m M r → keepsb r ≡ true
+  pub keeps-complete : (r : Rule) → Keeps m M r → keepsb m M r ≡ true
   keeps-complete r = ⊎-elim
-      (λ h. or-left (in-head (r .head)) (anyb (λ e. not (holds m e M)) (r .body)) (in-head-complete (r .head) h))
-      (λ h. or-right (in-head (r .head)) (anyb (λ e. not (holds m e M)) (r .body))
+      (λ h. or-left (in-head M (r .head)) (anyb (λ e. not (holds m e M)) (r .body)) (in-head-complete (r .head) h))
+      (λ h. or-right (in-head M (r .head)) (anyb (λ e. not (holds m e M)) (r .body))
       (any-anyb (λ e. not (holds m e M)) (λ e. holds m e M ≡ false) (λ x k. not-from-false (holds m x M) k) (r .body) h))
 
-  unfoldable pub borneb : Bool
-  borneb = allb keepsb rules && eqb (M ∩ round (derives m w rules M) 64) M
-
-  pub borneb-sound : borneb ≡ true → Borne m w rules M
+  pub borneb-sound : borneb m w rules M ≡ true → Borne m w rules M
   unfolding borneb
   borneb-sound e =
-      let k = and-parts (allb keepsb rules) (eqb (M ∩ round der 64) M) e in (
+      let k = and-parts (allb (keepsb m M) rules) (eqb (M ∩ round der 64) M) e in (
         round-ranks der,
-        bears-of (allb-all keepsb (Keeps m M) keeps-sound rules (k .0))
+        bears-of (allb-all (keepsb m M) (Keeps m M) keeps-sound rules (k .0))
             (and-sub-of M (round der 64) (eqb-true (M ∩ round der 64) M (k .1))),
       )
 
-  pub borneb-complete : Borne m w rules M → borneb ≡ true
+  pub borneb-complete : Borne m w rules M → borneb m w rules M ≡ true
   unfolding borneb
   borneb-complete b =
-      and-from (allb keepsb rules) (eqb (M ∩ round der 64) M)
-      (all-allb keepsb (Keeps m M) keeps-complete rules (b .1 .kept))
+      and-from (allb (keepsb m M) rules) (eqb (M ∩ round der 64) M)
+      (all-allb (keepsb m M) (Keeps m M) keeps-complete rules (b .1 .kept))
       (eq-eqb (M ∩ round der 64) M (sub-and M (round der 64) (borne-full b)))
 
 -- ---- by complement a borne set is minimal among those that keep the rules

@@ -5,3 +5,4 @@ pub mod Carry
 pub mod Bearing
 pub mod Answer
 pub mod Ways
+pub mod Worked

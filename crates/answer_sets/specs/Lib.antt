@@ -3,3 +3,4 @@ pub mod Published
 pub mod Rounds
 pub mod Theorems
 pub mod Tests
+pub mod Examples

@@ -4,8 +4,8 @@ use mathlib.Core.List.{List, [], _∷_}
 use Prim.Native.Nat.{ℕ, zero, suc, _+_, _*_, _/_, _%_}
 use lib.Dec.{eqb}
 use Rattle.banks.specs.Meaning.{Meaning}
-use Rattle.sets.specs.Sets.{_∩_, collect}
-use Rattle.answer_sets.specs.Rules.{Way, reduct, complement, Head, decision, no-head, Entry, Rule, meets}
+use Rattle.sets.specs.Sets.{has, _∩_, collect}
+use Rattle.answer_sets.specs.Rules.{Way, reduct, complement, Head, decision, no-head, Entry, Rule, meets, holds}
 
 abbrev pub allb : {X : Type 0} → (X → Bool) → List X → Bool
 allb p [] = true
@@ -55,3 +55,15 @@ derives m w rules M L b = anyb (givesb m w L M b) rules
 unfoldable pub round : (ℕ → ℕ → Bool) → ℕ → ℕ
 round der zero = 0
 round der (suc i) = collect 64 (der (round der i))
+
+-- whether M keeps a rule
+abbrev pub in-head : ℕ → Head → Bool
+in-head M (decision d) = has M d
+in-head M no-head = false
+
+abbrev pub keepsb : Meaning → ℕ → Rule → Bool
+keepsb m M r = in-head M (r .head) || anyb (λ e. not (holds m e M)) (r .body)
+
+-- whether some ranks bear M: it keeps the rules, and the rounds come to all of it
+unfoldable pub borneb : Meaning → Way → List Rule → ℕ → Bool
+borneb m w rules M = allb (keepsb m M) rules && eqb (M ∩ round (derives m w rules M) 64) M
