@@ -1,8 +1,7 @@
 -- The worked examples, computed.
-use mathlib.Core.Path.{_≡_, refl, sym, _∙_}
+use mathlib.Core.Path.{_≡_, refl}
 use mathlib.Core.Bool.{Bool, true, false, not, _&&_}
-use mathlib.Core.List.{List}
-use Prim.Native.Nat.{ℕ, _^_, _<_}
+use Prim.Native.Nat.{_^_, _<_}
 use lib.Dec.{ltb}
 use Rattle.std.specs.shelf.Lists.{All}
 use Rattle.std.proofs.shelf.Tests.{and-parts, both-ways, ltb-true, not-true}
@@ -25,7 +24,7 @@ by-answer r true l h =
     borne-is-answer-set (r .conditions) (r .way) (r .rules) (r .set) l .0 (borneb-sound (r .conditions) (r .way) (r .rules) (r .set) l h)
 by-answer r false l h = λ a.
     both-ways (borneb (r .conditions) (r .way) (r .rules) (r .set)) (not-true (borneb (r .conditions) (r .way) (r .rules) (r .set)) h)
-      (borneb-complete (r .conditions) (r .way) (r .rules) (r .set) l (borne-is-answer-set (r .conditions) (r .way) (r .rules) (r .set) l .1 a))
+    (borneb-complete (r .conditions) (r .way) (r .rules) (r .set) l (borne-is-answer-set (r .conditions) (r .way) (r .rules) (r .set) l .1 a))
 
 checked : allb check examples ≡ true
 unfolding borneb round derives all-between collect has
@@ -34,6 +33,6 @@ checked = refl
 pub worked : All Verdict examples
 worked =
     allb-all check Verdict
-      (λ r h. let p = and-parts (ltb (r .set) (2 ^ 64)) (same (r .answer) (borneb (r .conditions) (r .way) (r .rules) (r .set))) h in
-        by-answer r (r .answer) (ltb-true (r .set) (2 ^ 64) (p .0)) (p .1))
-      examples checked
+    (λ r h. let p = and-parts (ltb (r .set) (2 ^ 64)) (same (r .answer) (borneb (r .conditions) (r .way) (r .rules) (r .set))) h in
+    by-answer r (r .answer) (ltb-true (r .set) (2 ^ 64) (p .0)) (p .1))
+    examples checked

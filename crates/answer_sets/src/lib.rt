@@ -17,5 +17,4 @@ pub fn bearing_laws()
 // Worked examples of the theory.
 pub fn worked_examples()
     ensures { λ _. ⌜ All Verdict examples ⌝ }
-{
-}
+{}

@@ -33,6 +33,9 @@ module _ (m : Meaning) (w : Way) (lo up : ℕ) (r : Rule) (out d : ℕ) (is-head
         (λ k. or-second out (single d) e (has-single d e ∙ eq-eqb e d (sym (same-head d e r is-head (k .0))))) g)),
   )
 
+pub grown-none : (m : Meaning) (w : Way) (lo up : ℕ) (r : Rule) (out : ℕ) → ((d : ℕ) → r .head ≡ decision d → ⊥) → Grown m w lo up r out out
+grown-none m w lo up r out n e = ((λ i. inl i), ⊎-elim (λ i. i) (λ g. absurd (n e (g .0))))
+
 -- ---- over a list of rules
 
 module _ {X Y : Type 0} (f : X → Y) (xs : List X) (i : ℕ) (x : X) (h : i < length xs) (e : x ≡ getD xs i x) where

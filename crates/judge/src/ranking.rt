@@ -92,7 +92,7 @@ pub fn rank_set<B: Bank>(bank: &B, way: Way, rules: &[Rule], set: Set) -> Option
         (λ _. AnswerSet-by (way-of way) (program (meaning (now (bank .entry))) (rules-of (now (rules .entry)))) set) ⌝ }
     ensures minimal { λ r. ⌜ Cases r (Unit {0})
         (λ _. way-of way ≡ complement → (n : ℕ) → n < 2 ^ 64 → All (Keeps (meaning (now (bank .entry))) n) (rules-of (now (rules .entry)))
-            → (n ≡ set → ⊥) → (d : ℕ) × (d ∈ n) × (d ∉ set)) ⌝ }
+        → (n ≡ set → ⊥) → (d : ℕ) × (d ∈ n) × (d ∉ set)) ⌝ }
 {
     find_ranks(bank, way, rules, set)
 }
