@@ -4,3 +4,5 @@ pub mod carrying;
 pub mod keeping;
 pub mod ranking;
 pub mod rounding;
+#[cfg(test)]
+mod tests;
