@@ -7,10 +7,10 @@ use Prim.Native.Nat.{ℕ}
 use Rattle.std.specs.Orderings.{Decides}
 use Rattle.std.specs.shelf.Lists.{All}
 use Rattle.std.proofs.shelf.Tests.{both-ways, cases-bool, not-true, not-from-false}
-use Rattle.banks.specs.Meaning.{Meaning, Always, Never}
+use Rattle.banks.specs.Meaning.{Meaning, Always}
 use Rattle.sets.specs.Sets.{_⊆_, _∩_, Between}
 use Rattle.sets.proofs.Members.{sub-antisym, sub-refl, same-test, in-and, to-and, and-sub}
-use Rattle.answer_sets.specs.Rules.{Any, Rule, meets, holds, HeadIn, Keeps, Carried-by, reduct}
+use Rattle.answer_sets.specs.Rules.{Any, Rule, meets, holds, HeadIn, Keeps}
 use Rattle.answer_sets.proofs.Each.{no-any}
 
 -- the span of one set, as it is made
@@ -28,18 +28,6 @@ module _ (m : Meaning) (k M l u : ℕ) (is-l : l ≡ M ∩ M) (is-u : u ≡ M) w
 
   pub always-at : (r : Bool) → Decides r (Always m k l u) → r ≡ meets m k M
   always-at r d = same-test r (meets m k M) (λ e. d .0 e (M ∩ m .domain k) self) (λ e. d .1 (λ f b. ap (m .family k) (only f b) ∙ e))
-
-  pub never-decides : (r : Bool) → Decides r (Never m k l u) → Decides r (meets m k M ≡ false)
-  never-decides r d = ((λ e. d .0 e (M ∩ m .domain k) self), (λ e. d .1 (λ f b. ap (m .family k) (only f b) ∙ e)))
-
-  pub never-at : (r : Bool) → Decides r (Never m k l u) → r ≡ not (meets m k M)
-  never-at r d =
-      let n = never-decides r d in
-      same-test r (not (meets m k M)) (λ e. not-from-false (meets m k M) (n .0 e)) (λ e. n .1 (not-true (meets m k M) e))
-
-  pub carried-not : (L : ℕ) (neg r : Bool) → neg ≡ true → Decides r (Never m k l u) → Decides r (Carried-by m reduct k neg L M)
-  carried-not L true r e d = never-decides r d
-  carried-not L false r e d = absurd (both-ways false refl e)
 
 -- ---- a rule whose head is not in the set
 

@@ -1,6 +1,7 @@
 ghost use mathlib.Core.Path.{_≡_};
 ghost use mathlib.Core.Bool.{true};
 ghost use Prim.Native.Nat.{ℕ, _<_};
+ghost use lib.Dec.{ltb};
 ghost use lib.ListN.{length};
 ghost use Rattle.std.specs.Orderings.{Decides};
 ghost use Rattle.sets.specs.Sets.{_∈_};
@@ -58,6 +59,13 @@ fn given<B: Bank>(bank: &B, way: Way, rules: &[Rule], span: Span, b: u8) -> bool
     false
 }
 
+// Whether one rank is smaller than another.
+fn is_lower(rank: u8, other: u8) -> bool
+    ensures { λ r. ⌜ r ≡ ltb rank other ⌝ }
+{
+    rank < other
+}
+
 // The decisions of the set with a smaller rank than b.
 fn lower_of(ranks: &[u8], set: Set, b: u8) -> Set
     requires { ⌜ length (now ranks) ≡ 64 ⌝ ∗ ⌜ b < 64 ⌝ }
@@ -65,7 +73,7 @@ fn lower_of(ranks: &[u8], set: Set, b: u8) -> Set
 {
     let mut out: Set = 0;
     for d in 0..64u8 {
-        if contains_place(set, d) && ranks[d as usize] < ranks[b as usize] {
+        if contains_place(set, d) && is_lower(ranks[d as usize], ranks[b as usize]) {
             out |= 1u64 << d;
         }
     }

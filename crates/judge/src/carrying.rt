@@ -3,6 +3,7 @@ ghost use Rattle.std.specs.Orderings.{Decides};
 ghost use Rattle.std.specs.shelf.Lists.{All};
 ghost use Rattle.answer_sets.specs.Rules.{Carried};
 ghost use Rattle.rules.specs.Shapes.{way-of, entry-of};
+use crate::keeping::meets_at;
 use banks::bank::Bank;
 use rules::entry::Entry;
 use rules::way::Way;
@@ -17,7 +18,7 @@ pub fn carried<B: Bank>(bank: &B, way: Way, e: Entry, span: Span) -> bool
     }
     match way {
         Way::Complement => bank.never(e.condition, span),
-        Way::Reduct => bank.never(e.condition, Span::new(span.upper(), span.upper())),
+        Way::Reduct => !meets_at(bank, e.condition, span.upper()),
     }
 }
 

@@ -6,7 +6,7 @@ ghost use lib.ListN.{length};
 ghost use Rattle.std.specs.Orderings.{Decides};
 ghost use Rattle.std.specs.Options.{Cases};
 ghost use Rattle.std.specs.shelf.Lists.{All, At};
-ghost use Rattle.answer_sets.specs.Rules.{holds, HeadIn, Keeps};
+ghost use Rattle.answer_sets.specs.Rules.{meets, holds, HeadIn, Keeps};
 ghost use Rattle.rules.specs.Shapes.{entry-of, head-of, rule-of, rules-of};
 use banks::bank::Bank;
 use rules::entry::Entry;
@@ -16,16 +16,19 @@ use sets::set::Set;
 use sets::set::contains;
 use sets::span::Span;
 
+// Whether a condition holds at one set.
+pub(crate) fn meets_at<B: Bank>(bank: &B, k: u16, set: Set) -> bool
+    ensures { λ r. ⌜ r ≡ meets (meaning (now (bank .entry))) k set ⌝ }
+{
+    bank.always(k, Span::new(set, set))
+}
+
 // Whether an entry holds at a set.
 pub fn holds_at<B: Bank>(bank: &B, e: Entry, set: Set) -> bool
     ensures { λ r. ⌜ r ≡ holds (meaning (now (bank .entry))) (entry-of e) set ⌝ }
 {
-    let here = Span::new(set, set);
-    if e.negated {
-        bank.never(e.condition, here)
-    } else {
-        bank.always(e.condition, here)
-    }
+    let met = meets_at(bank, e.condition, set);
+    if e.negated { !met } else { met }
 }
 
 // Whether every entry of a body holds at a set.

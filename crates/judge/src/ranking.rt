@@ -1,6 +1,6 @@
 ghost use mathlib.Core.Path.{_≡_};
 ghost use mathlib.Core.Bool.{true, cond, _&&_};
-ghost use Prim.Native.Nat.{ℕ, _^_, _<_};
+ghost use Prim.Native.Nat.{ℕ, _+_, _^_, _<_};
 ghost use lib.Dec.{eqb};
 ghost use lib.ListN.{length, getD};
 ghost use Rattle.std.specs.Options.{Cases};
@@ -34,6 +34,21 @@ fn stamp(ranks: &mut [u8], set: Set, i: u8)
     }
 }
 
+// The number of round i, counted from 1.
+fn round_number(i: u8) -> u8
+    requires { ⌜ i < 64 ⌝ }
+    ensures { λ r. ⌜ r ≡ i + 1 ⌝ }
+{
+    i + 1
+}
+
+// Whether a round added nothing.
+fn settled(next: Set, reached: Set) -> bool
+    ensures { λ r. ⌜ Decides r (next ≡ reached) ⌝ }
+{
+    next == reached
+}
+
 // The rank of each decision: the first round that has it, or 0. The rounds end when one adds nothing.
 fn first_rounds<B: Bank>(bank: &B, way: Way, rules: &[Rule], set: Set) -> [u8; 64]
     requires { ⌜ All (Keeps (meaning (now bank)) set) (rules-of (now rules)) ⌝ }
@@ -43,10 +58,10 @@ fn first_rounds<B: Bank>(bank: &B, way: Way, rules: &[Rule], set: Set) -> [u8; 6
     let mut reached = 0;
     for i in 0..64u8 {
         let next = advance(bank, way, rules, Span::new(reached, set));
-        if next == reached {
+        if settled(next, reached) {
             return ranks;
         }
-        stamp(&mut ranks, next, i + 1);
+        stamp(&mut ranks, next, round_number(i));
         reached = next;
     }
     ranks

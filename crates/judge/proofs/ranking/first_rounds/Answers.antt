@@ -1,4 +1,4 @@
-use mathlib.Core.Path.{_≡_, refl, sym, ap, subst, _∙_}
+use mathlib.Core.Path.{_≡_, refl, sym, ap, ap₂, subst, _∙_}
 use mathlib.Core.Bool.{Bool, cond, _&&_}
 use Prim.Native.Nat.{ℕ, suc, _+_}
 use native.Mathlib.Numerals.{add-one}
@@ -19,14 +19,14 @@ loop-i-holds g c =
     let der : ℕ → ℕ → Bool = derives (g .B·Bank .meaning (c .args .bank .now)) (way-of (c .args .way)) (rules-of (c .args .rules .now)) (c .args .set) in
     (refl, refl, λ d l. subst (λ (v : ℕ). Stamped der 0 d v) (sym (getD-replicate 64 d 0 0 l)) (stamped-none der d))
 
-pub returns-then-next-reached : need.returns-then-next-reached
-returns-then-next-reached g c d l =
+pub returns-then-settled : need.returns-then-settled
+returns-then-settled g c d l =
     let m = g .B·Bank .meaning (c .args .bank .now) in let w = way-of (c .args .way) in let rs = rules-of (c .args .rules .now) in let M = c .args .set in
     let i = c .loop-i .i in
     let next : c .advance-next .result ≡ round (derives m w rs M) (suc i) =
     pass-is-round m w rs M (c .fits .set .fits) (c .pre) i (c .loop-i .reached) (c .new .result .lower) (c .new .result .upper) (c .advance-next .result)
     (c .loop-i .inv .1) (c .new .ensures .lower) (c .new .ensures .upper) (c .advance-next .ensures) in
-    stamped-last (derives m w rs M) i d (getD (c .loop-i .ranks) d 0) (omega arith) (sym next ∙ c .if-next-reached .taken ∙ c .loop-i .inv .1) (c .loop-i .inv .2 d l)
+    stamped-last (derives m w rs M) i d (getD (c .loop-i .ranks) d 0) (omega arith) (sym next ∙ c .settled .ensures .0 (c .if-settled .taken) ∙ c .loop-i .inv .1) (c .loop-i .inv .2 d l)
 
 pub loop-i-again : need.loop-i-again
 loop-i-again g c =
@@ -38,5 +38,5 @@ loop-i-again g c =
       omega arith,
       next,
       λ d l. stamped-more (derives m w rs M) i d _ _ (c .loop-i .inv .2 d l)
-          (c .stamp .ensures d l ∙ ap (λ (s : ℕ). cond (eqb (getD (c .loop-i .ranks) d 0) 0 && has s d) (i + 1) (getD (c .loop-i .ranks) d 0)) next),
+          (c .stamp .ensures d l ∙ ap₂ (λ (s n : ℕ). cond (eqb (getD (c .loop-i .ranks) d 0) 0 && has s d) n (getD (c .loop-i .ranks) d 0)) next (c .round-number .ensures)),
     )
