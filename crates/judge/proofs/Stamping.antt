@@ -71,6 +71,12 @@ module _ (m : Meaning) (w : Way) (rules : List Rule) (M : ℕ) (M< : M < 2 ^ 64)
   pub reached-in : (i : ℕ) → round (derives m w rules M) i ⊆ M
   reached-in = round-in M M< (derives m w rules M) (derives-mono m w rules M M<) (derives-inside m w rules M M< kept)
 
+  pub filled-stays : (i : ℕ) → round (derives m w rules M) i ≡ M → round (derives m w rules M) (suc i) ≡ round (derives m w rules M) i
+  filled-stays i e =
+      sub-antisym (round (derives m w rules M) (suc i)) (round (derives m w rules M) i)
+      (λ d h. subst (λ (x : ℕ). d ∈ x) (sym e) (reached-in (suc i) d h))
+      (round-up M M< (derives m w rules M) (derives-mono m w rules M M<) (derives-inside m w rules M M< kept) i)
+
   pub pass-is-round : (i reached lo up next : ℕ) → reached ≡ round (derives m w rules M) i → lo ≡ reached ∩ M → up ≡ M
       → ((d : ℕ) → Given-by m w lo up rules d next) → next ≡ round (derives m w rules M) (suc i)
   pass-is-round i reached lo up next e is-lo is-up given =

@@ -49,7 +49,8 @@ fn settled(next: Set, reached: Set) -> bool
     next == reached
 }
 
-// The rank of each decision: the first round that has it, or 0. The rounds end when one adds nothing.
+// The rank of each decision: the first round that has it, or 0. The rounds end when they have reached the set, or when one adds nothing; so there
+// are no more of them than the set has decisions.
 fn first_rounds<B: Bank>(bank: &B, way: Way, rules: &[Rule], set: Set) -> [u8; 64]
     requires { ⌜ All (Keeps (meaning (now bank)) set) (rules-of (now rules)) ⌝ }
     ensures { λ r. ⌜ ((d : ℕ) → d < 64 → Stamped (derives (meaning (now (bank .entry))) (way-of way) (rules-of (now (rules .entry))) set) 64 d (getD r d 0)) ⌝ }
@@ -57,6 +58,9 @@ fn first_rounds<B: Bank>(bank: &B, way: Way, rules: &[Rule], set: Set) -> [u8; 6
     let mut ranks = [0u8; 64];
     let mut reached = 0;
     for i in 0..64u8 {
+        if reached == set {
+            return ranks;
+        }
         let next = advance(bank, way, rules, Span::new(reached, set));
         if settled(next, reached) {
             return ranks;
