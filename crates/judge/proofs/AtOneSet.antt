@@ -38,15 +38,12 @@ all-or-any p (x ∷ xs) = ⊎-elim
     (λ (h : p x ≡ false). inr (inl h))
     (cases-bool (p x))
 
-pub keeps-not : (m : Meaning) (M : ℕ) (r : Rule) (t : Bool) → (HeadIn (r .head) M → ⊥) → Decides t (All (λ e. holds m e M ≡ true) (r .body)) → Decides (not t) (Keeps m M r)
+pub keeps-not : (m : Meaning) (M : ℕ) (r : Rule) (t : Bool) → (HeadIn (r .head) M → ⊥) → Decides t (All (λ e. holds m e M ≡ true) (r .body) → ⊥) → Decides t (Keeps m M r)
 keeps-not m M r t out d = (
   (λ e. ⊎-elim
-      (λ (h : All (λ e. holds m e M ≡ true) (r .body)). absurd (both-ways t (not-true t e) (d .1 h)))
+      (λ (h : All (λ e. holds m e M ≡ true) (r .body)). absurd (d .0 e h))
       (λ (h : Any (λ e. holds m e M ≡ false) (r .body)). inr h)
       (all-or-any (λ e. holds m e M) (r .body))),
   ⊎-elim (λ h. absurd (out h))
-      (λ h. ⊎-elim
-      (λ (e : t ≡ true). no-any {A = not t ≡ true} (λ e. holds m e M ≡ false) (λ e. holds m e M ≡ true) (λ x p q. both-ways (holds m x M) p q) (r .body) h (d .0 e))
-      (λ (e : t ≡ false). not-from-false t e)
-      (cases-bool t)),
+      (λ h. d .1 (λ a. no-any {A = ⊥} (λ e. holds m e M ≡ false) (λ e. holds m e M ≡ true) (λ x p q. both-ways (holds m x M) p q) (r .body) h a)),
 )

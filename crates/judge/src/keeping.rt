@@ -43,6 +43,13 @@ fn body_holds<B: Bank>(bank: &B, body: &[Entry], set: Set) -> bool
     true
 }
 
+// Whether some entry of a body fails at a set.
+fn body_fails<B: Bank>(bank: &B, body: &[Entry], set: Set) -> bool
+    ensures { λ r. ⌜ Decides r (All (λ e. holds (meaning (now (bank .entry))) e set ≡ true) (map entry-of (now (body .entry))) → ⊥) ⌝ }
+{
+    !body_holds(bank, body, set)
+}
+
 // Whether the head is in a set; no head is in none.
 fn head_in(head: Head, set: Set) -> bool
     ensures { λ r. ⌜ Decides r (HeadIn (head-of head) set) ⌝ }
@@ -60,7 +67,7 @@ pub fn keeps<B: Bank>(bank: &B, rule: &Rule, set: Set) -> bool
     if head_in(rule.head(), set) {
         return true;
     }
-    !body_holds(bank, rule.body(), set)
+    body_fails(bank, rule.body(), set)
 }
 
 // The lowest rule that a set breaks, if it breaks one.
