@@ -1,12 +1,12 @@
 -- Conditions and rules at one set.
 use mathlib.Core.Path.{_≡_, refl, sym, ap, subst, _∙_}
-use mathlib.Core.Bool.{Bool, true, false, not}
+use mathlib.Core.Bool.{Bool, true, false}
 use mathlib.Core.List.{List, [], _∷_}
 use mathlib.Core.Logic.{_⊎_, inl, inr, ⊎-elim}
 use Prim.Native.Nat.{ℕ}
 use Rattle.std.specs.Orderings.{Decides}
 use Rattle.std.specs.shelf.Lists.{All}
-use Rattle.std.proofs.shelf.Tests.{both-ways, cases-bool, not-true, not-from-false}
+use Rattle.std.proofs.shelf.Tests.{both-ways, cases-bool}
 use Rattle.banks.specs.Meaning.{Meaning, Always}
 use Rattle.sets.specs.Sets.{_⊆_, _∩_, Between}
 use Rattle.sets.proofs.Members.{sub-antisym, sub-refl, same-test, in-and, to-and, and-sub}
