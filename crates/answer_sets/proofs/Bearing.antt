@@ -159,4 +159,4 @@ complement-reduct m rules M ranks b = record {
 }
 
 pub given : Given
-given m w rules M b d h = any-to (Gives m w (below M (b .0) d) M d) (Can-give d M) (λ r g. g .0) rules (b .1 .borne d h)
+given m w rules M b d h = any-to (Gives m w (below M (b .0) d) M d) (λ r. Can-give d M (r .head)) (λ r g. g .0) rules (b .1 .borne d h)

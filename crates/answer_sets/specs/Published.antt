@@ -7,7 +7,7 @@ use Prim.Native.Nat.{ℕ, zero, suc, _≤_}
 use Rattle.std.specs.shelf.Lists.{All, kept-by}
 use Rattle.banks.specs.Meaning.{Meaning}
 use Rattle.sets.specs.Sets.{_∈_, _⊆_, _∩_, inside}
-use Rattle.answer_sets.specs.Rules.{Any, Head, decision, HeadIn, Entry, Rule, Way, reduct, complement}
+use Rattle.answer_sets.specs.Rules.{Any, Head, HeadIn, Can-give, Entry, Rule, Way, reduct, complement}
 
 infix 40 _⊨_
 -- an abstract constraint atom: a domain, and which of its subsets are admissible
@@ -44,7 +44,7 @@ Conditionally S M A = (S ⊨ A) × ((I : ℕ) → S ∩ A .dom ⊆ I → I ⊆ M
 
 -- the operator of a positive program: a follows from S with respect to M
 abbrev pub Follows : Program → ℕ → ℕ → ℕ → Type 0
-Follows P S M a = Any (λ r. (r .head ≡ decision a) × All (Conditionally S M) (r .pos)) P
+Follows P S M a = Any (λ r. Can-give a M (r .head) × All (Conditionally S M) (r .pos)) P
 
 -- R is the set of what follows from S
 abbrev pub Step : Program → ℕ → ℕ → ℕ → Type 0

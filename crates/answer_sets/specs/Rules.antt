@@ -59,13 +59,13 @@ Carried-by m reduct k true L M = meets m k M ≡ false
 abbrev pub Carried : Meaning → Way → Entry → ℕ → ℕ → Type 0
 Carried m w e L M = Carried-by m w (e .condition) (e .negated) L M
 
--- the rule can give decision b at M: b is its head
-abbrev pub Can-give : ℕ → ℕ → Rule → Type 0
-Can-give b M r = r .head ≡ decision b
+-- a rule with this head can give decision b at M: b is the head
+abbrev pub Can-give : ℕ → ℕ → Head → Type 0
+Can-give b M h = h ≡ decision b
 
 -- the rule gives b over the span from L to M: it can, and each entry of its body is carried
 abbrev pub Gives : Meaning → Way → ℕ → ℕ → ℕ → Rule → Type 0
-Gives m w L M b r = Can-give b M r × All (λ e. Carried m w e L M) (r .body)
+Gives m w L M b r = Can-give b M (r .head) × All (λ e. Carried m w e L M) (r .body)
 
 -- the rank of decision d
 abbrev pub rank : List ℕ → ℕ → ℕ

@@ -28,7 +28,7 @@ Minimal =
 
 -- some rule can give each decision of a borne set
 abbrev pub Given : Type 0
-Given = (m : Meaning) (w : Way) (rules : List Rule) (M : ℕ) → Borne m w rules M → (d : ℕ) → d ∈ M → Any (Can-give d M) rules
+Given = (m : Meaning) (w : Way) (rules : List Rule) (M : ℕ) → Borne m w rules M → (d : ℕ) → d ∈ M → Any (λ r. Can-give d M (r .head)) rules
 
 -- ranks that bear a set by complement bear it by reduct
 abbrev pub Complement-reduct : Type 0
