@@ -50,7 +50,7 @@ Follows P S M a = Any (λ r. Can-give a M (r .head) × All (Conditionally S M) (
 abbrev pub Step : Program → ℕ → ℕ → ℕ → Type 0
 Step P M S R = (a : ℕ) → (a ∈ R) ↔ Follows P S M a
 
--- R is the i-th set of the operator, started from the empty set
+-- R is what i steps of the operator make of the empty set
 abbrev pub Stage : Program → ℕ → ℕ → ℕ → Type 0
 Stage P M zero R = R ≡ 0
 Stage P M (suc i) R = (Q : ℕ) × Stage P M i Q × Step P M Q R
@@ -90,7 +90,7 @@ abbrev pub positive : Way → Program → ℕ → Program
 positive complement P M = complement-of P
 positive reduct P M = reduct-of P M
 
--- M is an answer set by complement, or by reduct
+-- answer sets of any program, for either way to read "not"
 abbrev pub AnswerSet-by : Way → Program → ℕ → Type 0
 AnswerSet-by w P M = AnswerSet (positive w P M) M
 

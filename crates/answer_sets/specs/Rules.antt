@@ -46,7 +46,7 @@ abbrev pub HeadIn : Head → ℕ → Type 0
 HeadIn (decision d) M = d ∈ M
 HeadIn no-head M = ⊥
 
--- M keeps a rule when its head is in M or some entry of its body does not hold at M
+-- M keeps a rule: it has the head, or an entry of the body fails at it
 abbrev pub Keeps : Meaning → ℕ → Rule → Type 0
 Keeps m M r = HeadIn (r .head) M ⊎ Any (λ e. holds m e M ≡ false) (r .body)
 
@@ -71,7 +71,7 @@ Gives m w L M b r = Can-give b M (r .head) × All (λ e. Carried m w e L M) (r .
 abbrev pub rank : List ℕ → ℕ → ℕ
 rank ranks d = getD ranks d 0
 
--- the decisions of M with a smaller rank than b
+-- what M has at ranks under that of b
 abbrev pub below : ℕ → List ℕ → ℕ → ℕ
 below M ranks b = collect 64 (λ d. has M d && ltb (rank ranks d) (rank ranks b))
 

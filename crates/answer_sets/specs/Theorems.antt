@@ -34,7 +34,7 @@ Given = (m : Meaning) (w : Way) (rules : List Rule) (M : ℕ) → Borne m w rule
 abbrev pub Complement-reduct : Type 0
 Complement-reduct = (m : Meaning) (rules : List Rule) (M : ℕ) (ranks : List ℕ) → Bears m complement rules M ranks → Bears m reduct rules M ranks
 
--- where every condition under a "not" is monotone, ranks bear a set by one way exactly when they do by the other
+-- the two ways bear alike where every condition under a "not" is monotone
 abbrev pub Ways-agree : Type 0
 Ways-agree =
     (m : Meaning) (rules : List Rule) (M : ℕ) (ranks : List ℕ) → All (λ r. All (λ e. e .negated ≡ true → Monotone m (e .condition)) (r .body)) rules

@@ -19,7 +19,7 @@ pub record Lawful (m : Meaning) : Type 0 where
   pub no-domain : (k : ℕ) → m .count ≤ k → m .domain k ≡ 0
   pub no-family : (k f : ℕ) → m .count ≤ k → m .family k f ≡ false
 
--- each set between lower and upper, both cut to the domain of condition k, is in its family
+-- the family of condition k has all sets from the lower one to the upper one, as far as its domain sees them
 abbrev pub Always : Meaning → ℕ → ℕ → ℕ → Type 0
 Always m k lower upper = (f : ℕ) → Between (lower ∩ m .domain k) (upper ∩ m .domain k) f → m .family k f ≡ true
 

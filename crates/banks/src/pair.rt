@@ -6,7 +6,7 @@ use sets::span::Span;
 // The most conditions that any bank may have.
 const MAX_COUNT: u16 = 32767;
 
-// Two banks side by side, the first one's numbers first.
+// A pair of banks as one: conditions of the second are numbered after those of the first.
 #[derive(Drop)]
 pub struct PairBank<A: Bank, B: Bank> {
     pub first: A,

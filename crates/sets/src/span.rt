@@ -25,7 +25,7 @@ pub struct Span {
 }
 
 impl Span {
-    // The span of any two sets: the upper is the second, the lower is the part of the first inside it.
+    // The span of a pair of sets: up to the second, from the decisions of the first that the second has too.
     pub fn new(first: Set, second: Set) -> Span
         ensures lower { λ r. ⌜ r .lower ≡ first ∩ second ⌝ }
         ensures upper { λ r. ⌜ r .upper ≡ second ⌝ }
