@@ -11,6 +11,7 @@ use Rattle.sets.specs.Sets.{has, _∈_, _⊆_}
 use Rattle.answer_sets.specs.Tests.{odd, pick, all-between}
 use Rattle.sets.proofs.Members.{has-zero, has-suc, has-none}
 use Rattle.sets.proofs.Collecting.{low-digit, half-digit}
+use Rattle.sets.proofs.Successor.{half-sub}
 
 pick-sound : (h l w wo b : Bool) → pick h l w wo ≡ true → (b ≡ true → h ≡ true) → (l ≡ true → b ≡ true) → cond b w wo ≡ true
 pick-sound false l w wo true e up down = absurd (both-ways false refl (up refl))
@@ -37,9 +38,6 @@ digit-of s = ⊎-elim
 
 split-digit : (s : ℕ) → s ≡ s / 2 * 2 + cond (odd s) 1 0
 split-digit s = sym (div-add-mod' s 2) ∙ ap (λ (x : ℕ). s / 2 * 2 + x) (digit-of s)
-
-half-sub : (s t : ℕ) → s ⊆ t → s / 2 ⊆ t / 2
-half-sub s t h d m = sym (has-suc t d) ∙ h (suc d) (has-suc s d ∙ m)
 
 odd-sub : (s t : ℕ) → s ⊆ t → odd s ≡ true → odd t ≡ true
 odd-sub s t h o = sym (has-zero t) ∙ h 0 (has-zero s ∙ o)

@@ -18,6 +18,11 @@ use Rattle.std.proofs.shelf.Tests.{both-ways}
 use Rattle.std.proofs.shelf.Ways.{not-from-decides}
 use Rattle.answer_sets.specs.Rules.{Any}
 use Rattle.answer_sets.proofs.Each.{all-of-map, all-to-map}
+use Rattle.rules.specs.declared.entry.Entry.{Entry}
+
+-- what stands past the end of a body
+abbrev pub blank : Entry
+blank = record { condition = 0; negated = false }
 
 module _ {X Y : Type 0} (f : X → Y) (P : Y → Type 0) (xs : List X) (i : ℕ) where
   pub fails : (d x : X) (r : Bool) → i < length xs → x ≡ getD xs i d → Decides r (P (f x)) → r ≡ false → Decides false (All P (map f xs))

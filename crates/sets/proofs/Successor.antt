@@ -83,7 +83,7 @@ after-step : (x up lo : ℕ) → bitOr (bitAnd x up) lo ≡ bitOr (bitAnd (x / 2
 after-step x up lo =
     or-step (bitAnd x up) lo ∙ ap₂ (λ (p q : ℕ). bitOr p (lo / 2) * 2 + max q (lo % 2)) (and-half x up) (and-low x up)
 
-half-sub : (s t : ℕ) → s ⊆ t → s / 2 ⊆ t / 2
+pub half-sub : (s t : ℕ) → s ⊆ t → s / 2 ⊆ t / 2
 half-sub s t h d m = sym (has-suc t d) ∙ h (suc d) (has-suc s d ∙ m)
 
 low-sub : (s t : ℕ) → s ⊆ t → s % 2 ≤ t % 2

@@ -4,7 +4,7 @@ ghost use Rattle.std.specs.Orderings.{Decides};
 ghost use Rattle.sets.specs.Sets.{has, _⊆_, _∩_, _∪_, _∖_, single, size};
 use crate::decision::Decision;
 
-// A set of decisions: bit d says that decision d is in it.
+// A set of decisions, as a number: the bit of value 2 to the d is on for each decision d that it has.
 pub type Set = u64;
 
 // Bit d of the set, as a number.

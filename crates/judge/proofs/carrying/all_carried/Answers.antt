@@ -1,16 +1,12 @@
 use mathlib.Core.Path.{refl}
-use mathlib.Core.Bool.{false}
 use native.Mathlib.Omega.{arith}
 use lib.ListN.{getD}
 use Rattle.answer_sets.specs.Rules as meant
 use Rattle.answer_sets.specs.Rules.{Carried}
 use Rattle.rules.specs.Shapes.{entry-of, way-of}
 use Rattle.rules.specs.declared.entry.Entry.{Entry}
-use Rattle.judge.proofs.Passing.{fails, passes, passed}
+use Rattle.judge.proofs.Passing.{blank, fails, passes, passed}
 use Rattle.judge.proofs.carrying.all_carried.Needs as need
-
-abbrev blank : Entry
-blank = record { condition = 0; negated = false }
 
 pub returns-then-not-carried : need.returns-then-not-carried
 returns-then-not-carried g c =

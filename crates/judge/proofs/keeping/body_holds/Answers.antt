@@ -1,16 +1,13 @@
 use mathlib.Core.Path.{_≡_, refl}
-use mathlib.Core.Bool.{true, false}
+use mathlib.Core.Bool.{true}
 use native.Mathlib.Omega.{arith}
 use lib.ListN.{getD}
 use Rattle.answer_sets.specs.Rules as meant
 use Rattle.answer_sets.specs.Rules.{holds}
 use Rattle.rules.specs.Shapes.{entry-of}
 use Rattle.rules.specs.declared.entry.Entry.{Entry}
-use Rattle.judge.proofs.Passing.{fails, passes, passed, decides-eq}
+use Rattle.judge.proofs.Passing.{blank, fails, passes, passed, decides-eq}
 use Rattle.judge.proofs.keeping.body_holds.Needs as need
-
-abbrev blank : Entry
-blank = record { condition = 0; negated = false }
 
 pub returns-then-not-holds-at : need.returns-then-not-holds-at
 returns-then-not-holds-at g c =

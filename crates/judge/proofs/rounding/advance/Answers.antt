@@ -17,11 +17,8 @@ use Rattle.rules.specs.declared.head.Head.the-variants.{Takes, Absent}
 use Rattle.rules.specs.declared.rule.Rule.{Rule}
 use Rattle.judge.specs.Reached.{Given-by}
 use Rattle.judge.proofs.Growing.{given-more, grown-has, grown-none, grown-not, grown-with}
-use Rattle.judge.proofs.Passing.{fails, passes, all-passed}
+use Rattle.judge.proofs.Passing.{blank, fails, passes, all-passed}
 use Rattle.judge.proofs.rounding.advance.Needs as need
-
-abbrev blank : Entry
-blank = record { condition = 0; negated = false }
 
 abbrev Headless : meant.Head → Type 0
 Headless (decision _) = ⊥
