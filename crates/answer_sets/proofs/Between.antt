@@ -3,7 +3,7 @@ use mathlib.Core.Path.{_≡_, refl, sym, ap, subst, _∙_}
 use mathlib.Core.Bool.{Bool, true, false, cond}
 use mathlib.Core.Logic.{_⊎_, ⊎-elim}
 use Prim.Native.Nat.{ℕ, zero, suc, _+_, _*_, _/_, _%_, _^_, _<_}
-use native.Mathlib.Nat.{div-add-mod', pow-suc, div-lt-iff-lt-mul, zero-lt-suc, mod-lt}
+use native.Mathlib.Nat.{div-add-mod', zero-lt-suc, mod-lt}
 use native.Mathlib.Omega.{arith}
 use lib.Arith.{lt-one}
 use Rattle.std.proofs.shelf.Tests.{cases-bool, both-ways, and-parts, and-from, eqb-true, eqb-false}
@@ -11,7 +11,7 @@ use Rattle.sets.specs.Sets.{has, _∈_, _⊆_}
 use Rattle.answer_sets.specs.Tests.{odd, pick, all-between}
 use Rattle.sets.proofs.Members.{has-zero, has-suc, has-none}
 use Rattle.sets.proofs.Collecting.{low-digit, half-digit}
-use Rattle.sets.proofs.Successor.{half-sub}
+use Rattle.sets.proofs.Successor.{half-lt, half-sub}
 
 pick-sound : (h l w wo b : Bool) → pick h l w wo ≡ true → (b ≡ true → h ≡ true) → (l ≡ true → b ≡ true) → cond b w wo ≡ true
 pick-sound false l w wo true e up down = absurd (both-ways false refl (up refl))
@@ -42,16 +42,13 @@ split-digit s = sym (div-add-mod' s 2) ∙ ap (λ (x : ℕ). s / 2 * 2 + x) (dig
 odd-sub : (s t : ℕ) → s ⊆ t → odd s ≡ true → odd t ≡ true
 odd-sub s t h o = sym (has-zero t) ∙ h 0 (has-zero s ∙ o)
 
-half-below : (n s : ℕ) → s < 2 ^ suc n → s / 2 < 2 ^ n
-half-below n s h = div-lt-iff-lt-mul (zero-lt-suc 1) .1 (rw pow-suc at h)
-
 pub between-sound : (n lo hi : ℕ) (p : ℕ → Bool) → all-between n lo hi p ≡ true → (F : ℕ) → F < 2 ^ n → lo ⊆ F → F ⊆ hi → p F ≡ true
 unfolding all-between
 between-sound zero lo hi p e F l a b = ap p (lt-one l) ∙ e
 between-sound (suc n) lo hi p e F l a b =
     ap p (split-digit F) ∙ go (odd F)
     (pick-sound (odd hi) (odd lo) (all-between n (lo / 2) (hi / 2) (λ x. p (x * 2 + 1))) (all-between n (lo / 2) (hi / 2) (λ x. p (x * 2 + 0))) (odd F) e (odd-sub F hi b) (odd-sub lo F a))
-    (λ q h. between-sound n (lo / 2) (hi / 2) q h (F / 2) (half-below n F l) (half-sub lo F a) (half-sub F hi b))
+    (λ q h. between-sound n (lo / 2) (hi / 2) q h (F / 2) (half-lt n F l) (half-sub lo F a) (half-sub F hi b))
   where
     go : (b : Bool) → cond b (all-between n (lo / 2) (hi / 2) (λ x. p (x * 2 + 1))) (all-between n (lo / 2) (hi / 2) (λ x. p (x * 2 + 0))) ≡ true
         → ((q : ℕ → Bool) → all-between n (lo / 2) (hi / 2) q ≡ true → q (F / 2) ≡ true)
@@ -76,8 +73,8 @@ between-complete zero lo hi p s l h =
     h 0 (λ d m. subst (λ (x : ℕ). d ∈ x) (lt-one l) (s d m)) (λ d m. absurd (both-ways (has 0 d) (has-none d) m))
 between-complete (suc n) lo hi p s l h =
     pick-complete (odd hi) (odd lo) _ _
-    (λ o. between-complete n (lo / 2) (hi / 2) (λ x. p (x * 2 + 1)) (half-sub lo hi s) (half-below n hi l)
+    (λ o. between-complete n (lo / 2) (hi / 2) (λ x. p (x * 2 + 1)) (half-sub lo hi s) (half-lt n hi l)
     (λ F a b. h (F * 2 + 1) (lift-sub lo F true a (λ _. refl)) (drop-sub hi F true b (λ _. o))))
-    (λ o. between-complete n (lo / 2) (hi / 2) (λ x. p (x * 2 + 0)) (half-sub lo hi s) (half-below n hi l)
+    (λ o. between-complete n (lo / 2) (hi / 2) (λ x. p (x * 2 + 0)) (half-sub lo hi s) (half-lt n hi l)
     (λ F a b. h (F * 2 + 0) (lift-sub lo F false a (λ k. sym o ∙ k)) (drop-sub hi F false b (λ k. absurd (both-ways false refl k)))))
     (odd-sub lo hi s)

@@ -1,4 +1,4 @@
--- Sets of decisions. A decision is a number from 0 to 63, and a set is a number whose bit d says that decision d is in it.
+-- Sets of decisions. Decisions are the numbers below 64; a set is the sum of 2 to the d over the decisions d that it has.
 use mathlib.Core.Path.{_≡_}
 use mathlib.Core.Bool.{Bool, true, false, cond}
 use Prim.Native.Nat.{ℕ, zero, suc, _+_, _*_, _/_, _%_, _^_, _≤_}
