@@ -1,4 +1,6 @@
 // The plain account of a book: what each call answers and leaves, stated with no program in sight.
+#![tactic(auto)]
+
 ghost use Rattle.account.specs.Kept.{RunKept};
 ghost use Rattle.account.specs.Laws.{StepDetermined, RunDetermined, FileExact, LodgeExact};
 

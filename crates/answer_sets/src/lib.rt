@@ -1,4 +1,6 @@
 // When ranks bear a set, the published definition of answer sets, and the theorems that tie the two together.
+#![tactic(auto)]
+
 ghost use Rattle.std.specs.List.{AllByRecursion as All};
 ghost use Rattle.answer_sets.specs.Examples.{Verdict, examples};
 ghost use Rattle.answer_sets.specs.Theorems.{BorneIsAnswerSet, RoundsBear, Minimal, Given, ComplementReduct, WaysAgree, StagesExist};

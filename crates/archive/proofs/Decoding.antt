@@ -9,8 +9,8 @@ use Rattle.sets.specs.Walks.{decisions}
 use Rattle.sets.proofs.Listing.{decisions_listed}
 use Rattle.answer_sets.specs.Rules.{Way, reduct, complement, Head, decision, no_head, Entry, Rule, Ranked, rank}
 use Rattle.account.specs.Account.{Account, Page}
-use Rattle.hex.specs.Hex.{Bytes}
-use Rattle.hex.proofs.Hexes.{bytes_append}
+use Rattle.hexlines.specs.Hex.{Bytes}
+use Rattle.hexlines.proofs.Hexes.{bytes_append}
 use Rattle.frames.specs.Bytes.{in_two, in_eight, way_byte}
 use Rattle.frames.specs.Frames.{Frame, a_header, a_trailer, spelled, Fit}
 use Rattle.account.specs.Naming.{head_number}

@@ -5,8 +5,8 @@ use Rattle.std.proofs.lemmas.List.{length-take, same_from_push}
 use Rattle.std.proofs.lemmas.Bool.{cases_lt, cases_order, eq-eqb, ne_eqb, eqb-true}
 use Rattle.answer_sets.specs.Rules.{Rule}
 use Rattle.account.specs.Account.{Account, Page}
-use Rattle.hex.specs.Hex.{line}
-use Rattle.hex.proofs.Lines.{line_same, length_line}
+use Rattle.hexlines.specs.Hex.{line}
+use Rattle.hexlines.proofs.Lines.{line_same, length_line}
 use Rattle.frames.specs.Frames.{Frame, a_header, a_trailer, spelled}
 use Rattle.frames.proofs.Known.{two_same, frame_same}
 use Rattle.archive.specs.Text.{rule_frame, page_frame, resting, inner, frames_of, lines, text_of}

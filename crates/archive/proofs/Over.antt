@@ -2,9 +2,9 @@
 use Rattle.std.proofs.Common.{◌≡◌, ℕ, ◌+◌, ◌-◌, ◌*◌, ◌/◌, ◌%◌, ◌<◌, ◌≤◌, List, [], ◌∷◌, ◌++◌, length, get_or, take, drop, set, sym, refl, ap, ◌∙◌, subst, append_assoc, append-nil, zero-add, add-one, arith, length-append}
 use Rattle.std.proofs.lemmas.List.Edits.{sets-eq}
 use Rattle.std.proofs.lemmas.List.{length-take-le, take_at, drop_at, drop-drop, take_more, take-append-drop, length-set}
-use Rattle.hex.specs.Hex.{digit, hex, line}
-use Rattle.hex.proofs.Hexes.{hex_append, length_hex}
-use Rattle.hex.proofs.Lines.{length_line}
+use Rattle.hexlines.specs.Hex.{digit, hex, line}
+use Rattle.hexlines.proofs.Hexes.{hex_append, length_hex}
+use Rattle.hexlines.proofs.Lines.{length_line}
 use Rattle.archive.specs.Writing.{over, Puts, Printed}
 
 pub over_none : (at : ℕ) (out : List ℕ) → over at [] out ≡ out

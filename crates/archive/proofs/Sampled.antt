@@ -2,7 +2,7 @@
 use Rattle.std.proofs.Common.{refl}
 use Rattle.sets.specs.Sets.{has}
 use Rattle.sets.specs.Walks.{decisions_below}
-use Rattle.hex.specs.Hex.{hex, line}
+use Rattle.hexlines.specs.Hex.{hex, line}
 use Rattle.archive.specs.Text.{rule_frame, page_frame, inner, frames_of, text_of}
 use Rattle.archive.specs.Sample.{SampleText}
 

@@ -9,7 +9,7 @@ use Rattle.account.specs.Account as plain
 use Rattle.account.specs.Account.{Account}
 use Rattle.book.specs.View.{page_of}
 use Rattle.book.specs.declared.page.Page.{Page}
-use Rattle.hex.specs.Hex.{line}
+use Rattle.hexlines.specs.Hex.{line}
 use Rattle.frames.specs.Frames.{Frame, spelled, a_header, a_trailer}
 use Rattle.archive.specs.Text.{rule_frame, page_frame, resting, inner, frames_of, lines, text_of}
 use Rattle.archive.specs.Writing.{Puts, lines_on}

@@ -2,7 +2,7 @@
 use Rattle.std.specs.Prelude.{◌≡◌, ℕ, List, [], ◌∷◌}
 use Rattle.banks.specs.Meaning.{Meaning, Lawful}
 use Rattle.account.specs.Account.{Account, blank, Call, Answer, Run}
-use Rattle.hex.specs.Hex.{Begins}
+use Rattle.hexlines.specs.Hex.{Begins}
 use Rattle.frames.specs.Frames.{Frame, spelled, Fit}
 use Rattle.archive.specs.Text.{frames_of, text_of}
 use Rattle.archive.specs.Formed.{Formed}

@@ -9,7 +9,7 @@ ghost use Rattle.frames.specs.Frames.{spelled, a_header, a_trailer};
 ghost use Rattle.archive.specs.Text.{entry_number, body_bytes, rule_frame, page_frame};
 
 use book::page::Page;
-use hex::line::Line;
+use hexlines::line::Line;
 use naming::head::head_number;
 use rows::row::Row;
 use rules::entry::Entry;

@@ -1,11 +1,11 @@
 ghost use Rattle.std.specs.Prelude.{◌≡◌, ◌+◌, ◌*◌, ◌^◌, ◌<◌, ◌≤◌, [], ◌∷◌, length, slice_set};
 ghost use Rattle.rows.specs.Rows.{held};
-ghost use Rattle.hex.specs.Hex as Hex;
-ghost use Rattle.hex.specs.Hex.{hex};
+ghost use Rattle.hexlines.specs.Hex as Hex;
+ghost use Rattle.hexlines.specs.Hex.{hex};
 ghost use Rattle.archive.specs.Writing.{over, Puts};
 
-use hex::digits::digits_of;
-use hex::line::Line;
+use hexlines::digits::digits_of;
+use hexlines::line::Line;
 
 // Writes one character.
 fn put(memory: &mut [u8], at: usize, c: u8)

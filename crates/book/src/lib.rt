@@ -1,4 +1,6 @@
 // The book: its rules and pages over a bank, and the calls on it.
+#![tactic(auto)]
+
 pub mod breach;
 pub mod ledger;
 pub mod limits;

@@ -1,4 +1,6 @@
 // A book with its pages at work, and the answer sets of some rules.
+#![tactic(auto)]
+
 mod booking;
 mod seeking;
 mod shown;

@@ -1,11 +1,11 @@
 ghost use Rattle.std.specs.Prelude.{◌≡◌, [], ◌∷◌, MatchResult};
-ghost use Rattle.hex.specs.declared.fault.Layer.TheVariants.{Frame as At-frame};
+ghost use Rattle.hexlines.specs.declared.fault.Layer.TheVariants.{Frame as At-frame};
 ghost use Rattle.frames.specs.Bytes.{in_eight, NamesWay};
 ghost use Rattle.frames.specs.Frames.{Spells, NoFrame};
 ghost use Rattle.frames.specs.Shapes.{frame_of};
 
 use crate::frame::Frame;
-use hex::fault::{Fault, Layer};
+use hexlines::fault::{Fault, Layer};
 use rules::way::Way;
 
 // The way that a byte names, if it names one.

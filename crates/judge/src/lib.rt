@@ -1,4 +1,6 @@
 // Whether a set keeps rules, whether ranks bear it, and the ranks of the rounds: over any bank.
+#![tactic(auto)]
+
 pub mod bearing;
 pub mod carrying;
 pub mod depth;

@@ -1,4 +1,6 @@
 // The listed bank: conditions whose families stand as lists of sets in tables that the caller lends.
+#![tactic(auto)]
+
 pub mod bank;
 pub mod condition;
 mod row;

@@ -1,4 +1,6 @@
 // Measures: weights that add up to totals, and totals that are compared.
+#![tactic(auto)]
+
 pub mod grade;
 pub mod grades;
 pub mod kilo;

@@ -1,3 +1,5 @@
 // The refusals of the whole product, in one enum.
+#![tactic(auto)]
+
 pub mod refusal;
 pub mod telling;

@@ -1,5 +1,7 @@
 // The season book at work: how the conditions of the house bank stand while some decisions are open, bad tables refused, and which sets
 // some rules bear.
+#![tactic(auto)]
+
 use banks::bank::Bank;
 use banks::standing::Standing;
 use banks::verdict::standing_of;

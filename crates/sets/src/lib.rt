@@ -1,4 +1,6 @@
 // Sets of decisions: the vocabulary in which every statement of the repository is written.
+#![tactic(auto)]
+
 pub mod decision;
 pub mod decisions;
 pub mod laws;

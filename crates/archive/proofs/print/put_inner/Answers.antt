@@ -3,7 +3,7 @@ use Rattle.std.proofs.lemmas.List.{length-map, get_or-map}
 use Rattle.rows.specs.Rows.{held}
 use Rattle.rules.specs.Shapes.{rule_of, rules_of}
 use Rattle.book.specs.View.{page_of}
-use Rattle.hex.specs.Hex.{line}
+use Rattle.hexlines.specs.Hex.{line}
 use Rattle.frames.specs.Frames.{spelled}
 use Rattle.archive.specs.Text.{rule_frame}
 use Rattle.archive.specs.Writing.{Puts, lines_on}

@@ -2,7 +2,7 @@ use Rattle.std.proofs.Common.{true, false, [], ap, ◌∙◌, arith}
 use Rattle.rows.specs.Rows.{held}
 use Rattle.rules.specs.Shapes.{rules_of}
 use Rattle.book.specs.View.{page_of}
-use Rattle.hex.specs.Hex.{line}
+use Rattle.hexlines.specs.Hex.{line}
 use Rattle.frames.specs.Frames.{spelled}
 use Rattle.archive.proofs.Over.{puts_none, puts_same}
 use Rattle.archive.proofs.Sequence.{rests, lines_on_no, lines_on_yes, page_frame_alone}

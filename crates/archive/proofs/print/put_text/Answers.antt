@@ -3,7 +3,7 @@ use Rattle.std.proofs.lemmas.List.{length-map}
 use Rattle.rows.specs.Rows.{held}
 use Rattle.rules.specs.Shapes.{rule_of, rules_of}
 use Rattle.book.specs.View.{page_of, account_of}
-use Rattle.hex.specs.Hex.{line}
+use Rattle.hexlines.specs.Hex.{line}
 use Rattle.frames.specs.Frames.{spelled, a_header, a_trailer}
 use Rattle.archive.specs.Text.{inner, lines, text_of}
 use Rattle.archive.proofs.Over.{puts_same, puts_then}

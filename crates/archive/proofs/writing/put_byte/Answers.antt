@@ -1,5 +1,5 @@
 use Rattle.std.proofs.Common.{◌≡◌, ◌+◌, ◌/◌, ◌%◌, get_or, set, ap, ◌∙◌}
-use Rattle.hex.specs.Hex.{digit}
+use Rattle.hexlines.specs.Hex.{digit}
 use Rattle.archive.proofs.Over.{over_byte}
 use Rattle.archive.proofs.writing.put_byte.Goals as goal
 

@@ -1,7 +1,7 @@
 use Rattle.std.proofs.Common.{◌+◌, ◌*◌, [], ◌∷◌, get_or, sym, ap, ◌∙◌, arith}
 use Rattle.std.proofs.lemmas.List.{take_all}
-use Rattle.hex.specs.Hex.{hex}
-use Rattle.hex.proofs.Hexes.{hex_nil}
+use Rattle.hexlines.specs.Hex.{hex}
+use Rattle.hexlines.proofs.Hexes.{hex_nil}
 use Rattle.archive.specs.Writing.{over}
 use Rattle.archive.proofs.Over.{over_none, over_bytes_more}
 use Rattle.archive.proofs.writing.put_bytes.Goals as goal

@@ -1,5 +1,5 @@
 use Rattle.std.proofs.Common.{◌≡◌, take}
-use Rattle.hex.specs.Hex.{hex}
+use Rattle.hexlines.specs.Hex.{hex}
 use Rattle.archive.specs.Writing.{over}
 use Rattle.archive.proofs.writing.put_bytes.Given as goal
 

@@ -1,7 +1,7 @@
 use Rattle.std.proofs.Common.{length, refl, ap, arith}
 use Rattle.rows.specs.Rows.{held}
 use Rattle.rows.proofs.Rows.{held_bound}
-use Rattle.hex.proofs.Lines.{length_line}
+use Rattle.hexlines.proofs.Lines.{length_line}
 use Rattle.archive.proofs.Over.{line_puts}
 use Rattle.archive.proofs.writing.put_line.Goals as goal
 

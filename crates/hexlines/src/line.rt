@@ -1,8 +1,8 @@
 ghost use Rattle.std.specs.Prelude.{◌≡◌, ℕ, ◌+◌, ◌*◌, ◌<◌, List, length, drop, None, MatchResult};
 ghost use Rattle.rows.specs.Rows.{held};
-ghost use Rattle.hex.specs.Hex.{Front, Pair, Begins, Feed};
-ghost use Rattle.hex.specs.declared.fault.Fault.{Fault};
-ghost use Rattle.hex.specs.declared.fault.Layer.TheVariants.{Text};
+ghost use Rattle.hexlines.specs.Hex.{Front, Pair, Begins, Feed};
+ghost use Rattle.hexlines.specs.declared.fault.Fault.{Fault};
+ghost use Rattle.hexlines.specs.declared.fault.Layer.TheVariants.{Text};
 
 use crate::digits::byte_at;
 use crate::fault::{Fault, Layer};

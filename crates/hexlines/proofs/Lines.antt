@@ -2,8 +2,8 @@
 use Rattle.std.proofs.Common.{◌≡◌, ℕ, suc, ◌+◌, ◌*◌, ◌/◌, ◌%◌, ◌<◌, ◌≤◌, Bool, cond, ltb, ◌⊎◌, List, [], ◌∷◌, ◌++◌, length, get_or, drop, Some, None, sym, refl, ap, ◌∙◌, subst, inl, inr, append_assoc, add-zero, arith, length-drop}
 use Rattle.std.proofs.lemmas.List.{length-append, drop-drop, drop_more, get_or-drop}
 use Rattle.std.proofs.lemmas.Bool.{cond-true, lt-ltb}
-use Rattle.hex.specs.Hex.{digit, hex, line, Bytes, Pair, Front, Begins}
-use Rattle.hex.proofs.Hexes.{hex_append, hex_nil, hex_cons, length_hex, digit_not_feed, byte_same, bytes_append}
+use Rattle.hexlines.specs.Hex.{digit, hex, line, Bytes, Pair, Front, Begins}
+use Rattle.hexlines.proofs.Hexes.{hex_append, hex_nil, hex_cons, length_hex, digit_not_feed, byte_same, bytes_append}
 
 -- a line and what follows it
 line_then : (bs rest : List ℕ) → line bs ++ rest ≡ hex bs ++ 10 ∷ rest

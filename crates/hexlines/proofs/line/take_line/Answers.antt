@@ -1,9 +1,9 @@
 use Rattle.std.proofs.Common.{◌*◌, true, false, refl, subst, arith}
 use Rattle.rows.specs.Rows.{held}
-use Rattle.hex.specs.Hex.{Feed}
-use Rattle.hex.proofs.Lines.{front_line, front_no_line}
-use Rattle.hex.proofs.line.take_line.Goals as goal
-use Rattle.hex.proofs.line.take_line.Goals.{then-len-eq0-via-then-len-eq0, then-len-eq0-via-else-len-eq0+then-not-ends-at}
+use Rattle.hexlines.specs.Hex.{Feed}
+use Rattle.hexlines.proofs.Lines.{front_line, front_no_line}
+use Rattle.hexlines.proofs.line.take_line.Goals as goal
+use Rattle.hexlines.proofs.line.take_line.Goals.{then-len-eq0-via-then-len-eq0, then-len-eq0-via-else-len-eq0+then-not-ends-at}
 
 pub returns-then-len-eq0 : goal.returns-then-len-eq0
 returns-then-len-eq0 c =

@@ -1,9 +1,9 @@
 use Rattle.std.proofs.Common.{◌*◌, length, drop, Some, None, sym, ap, subst, arith}
 use Rattle.std.proofs.lemmas.List.{length_push}
 use Rattle.rows.specs.Rows.{held}
-use Rattle.hex.specs.Hex.{Pair}
-use Rattle.hex.proofs.Lines.{pushed, front_none, front_more, front_within}
-use Rattle.hex.proofs.line.front.Goals as goal
+use Rattle.hexlines.specs.Hex.{Pair}
+use Rattle.hexlines.proofs.Lines.{pushed, front_none, front_more, front_within}
+use Rattle.hexlines.proofs.line.front.Goals as goal
 
 pub byte-at-requires : goal.byte-at-requires
 byte-at-requires c =

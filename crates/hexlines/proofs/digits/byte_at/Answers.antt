@@ -1,7 +1,7 @@
 use Rattle.std.proofs.Common.{◌≡◌, ◌+◌, ◌*◌, ◌/◌, ◌%◌, length, sym, ap, ◌∙◌, arith, length-drop}
-use Rattle.hex.specs.Hex.{digit}
-use Rattle.hex.proofs.Hexes.{first_at, second_at, both_at}
-use Rattle.hex.proofs.digits.byte_at.Goals as goal
+use Rattle.hexlines.specs.Hex.{digit}
+use Rattle.hexlines.proofs.Hexes.{first_at, second_at, both_at}
+use Rattle.hexlines.proofs.digits.byte_at.Goals as goal
 
 pub returns-then-text-at-lt2 : goal.returns-then-text-at-lt2
 returns-then-text-at-lt2 c = λ b q small e. omega (arith, ap length e, length-drop c.args.at c.args.text.now)

@@ -1,5 +1,5 @@
 ghost use Rattle.std.specs.Prelude.{◌≡◌, ◌/◌, ◌%◌, ◌<◌, ◌≤◌, [], ◌∷◌, length, drop};
-ghost use Rattle.hex.specs.Hex.{digit, Nibble, Pair};
+ghost use Rattle.hexlines.specs.Hex.{digit, Nibble, Pair};
 
 // The digit of a number below sixteen.
 fn digit_of(n: u8) -> u8
