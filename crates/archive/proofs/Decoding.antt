@@ -15,7 +15,7 @@ use Rattle.frames.specs.Bytes.{in_two, in_eight, way_byte}
 use Rattle.frames.specs.Frames.{Frame, a_header, a_trailer, spelled, Fit}
 use Rattle.account.specs.Naming.{head_number}
 use Rattle.archive.specs.Text.{entry_number, body_bytes, rule_frame, page_frame, resting, inner, frames_of, lines, text_of}
-use Rattle.archive.specs.Formed.{HeadFormed, Rule-formed, Page-formed, Formed}
+use Rattle.archive.specs.Formed.{HeadFormed, RuleFormed, PageFormed, Formed}
 use Rattle.archive.specs.Laws.{Reads, LineByLine}
 use Rattle.archive.proofs.Pieces.{length_body, few_decisions}
 
@@ -69,14 +69,14 @@ header_fits count l = record { fit = tt; some = omega arith; few = omega arith; 
 trailer_fits : (rules pages : ℕ) → rules < 256 → pages < 256 → Fits (a_trailer rules pages)
 trailer_fits rules pages l m = record { fit = tt; some = omega arith; few = omega arith; small = (omega arith, (l, (m, tt))) }
 
-rule_fits : (r : Rule) → Rule-formed r → Fits (rule_frame r)
+rule_fits : (r : Rule) → RuleFormed r → Fits (rule_frame r)
 unfolding rule_frame
 rule_fits r f =
     let n = length_body r.body in
     let s = f.short in
     record { fit = omega arith; some = omega arith; few = omega arith; small = (omega arith, (head_small r.head f.head, (omega arith, body_small r.body))) }
 
-page_fits : (rules : List Rule) (p : Page) → Page-formed rules p → Fits (page_frame p)
+page_fits : (rules : List Rule) (p : Page) → PageFormed rules p → Fits (page_frame p)
 unfolding page_frame
 page_fits rules p f =
     let s = p.«set» in
@@ -102,13 +102,13 @@ all_kept P test (x ∷ xs) h = kept_one P (test x) x (filter test xs) h.0 (all_k
 pages_fit : (k : ℕ) (pages : List Page) → All (λ p. Fits (page_frame p)) pages → All Fits (map page_frame (resting k pages))
 pages_fit k pages h = All-map Fits page_frame (resting k pages) (all_kept (λ p. Fits (page_frame p)) (λ p. eqb (length p.rules) k) pages h)
 
-inner_fits : (k : ℕ) (rules : List Rule) (pages : List Page) → All Rule-formed rules → All (λ p. Fits (page_frame p)) pages → All Fits (inner k rules pages)
+inner_fits : (k : ℕ) (rules : List Rule) (pages : List Page) → All RuleFormed rules → All (λ p. Fits (page_frame p)) pages → All Fits (inner k rules pages)
 unfolding inner
 inner_fits k [] pages h g = pages_fit k pages g
 inner_fits k (r ∷ rules) pages h g =
     All-append Fits (map page_frame (resting k pages)) (rule_frame r ∷ inner (k + 1) rules pages) (pages_fit k pages g) (rule_fits r h.0, inner_fits (k + 1) rules pages h.1 g)
 
-all_pages_fit : (rules : List Rule) (pages : List Page) → All (Page-formed rules) pages → All (λ p. Fits (page_frame p)) pages
+all_pages_fit : (rules : List Rule) (pages : List Page) → All (PageFormed rules) pages → All (λ p. Fits (page_frame p)) pages
 all_pages_fit rules [] h = tt
 all_pages_fit rules (p ∷ pages) h = (page_fits rules p h.0, all_pages_fit rules pages h.1)
 

@@ -10,7 +10,7 @@ use Rattle.hexlines.proofs.Lines.{line_same, length_line}
 use Rattle.frames.specs.Frames.{Frame, a_header, a_trailer, spelled}
 use Rattle.frames.proofs.Known.{two_same, frame_same}
 use Rattle.archive.specs.Text.{rule_frame, page_frame, resting, inner, frames_of, lines, text_of}
-use Rattle.archive.specs.Formed.{Rule-formed, Page-formed, Rising}
+use Rattle.archive.specs.Formed.{RuleFormed, PageFormed, Rising}
 use Rattle.archive.specs.Laws.{SpellsOneBook}
 use Rattle.archive.proofs.Spelled.{rule_same, page_same}
 
@@ -113,25 +113,25 @@ count p = length p.rules
 
 -- a page that is formed, on k rules
 OnExactly : List Rule → ℕ → Page → Type 0
-OnExactly rules k p = Page-formed rules p × (count p ≡ k)
+OnExactly rules k p = PageFormed rules p × (count p ≡ k)
 
-rest_one : (rules : List Rule) (k : ℕ) (p : Page) (ps : List Page) (t : Bool) → eqb (length p.rules) k ≡ t → Page-formed rules p → All (OnExactly rules k) ps →
+rest_one : (rules : List Rule) (k : ℕ) (p : Page) (ps : List Page) (t : Bool) → eqb (length p.rules) k ≡ t → PageFormed rules p → All (OnExactly rules k) ps →
     All (OnExactly rules k) (cond t (p ∷ ps) ps)
 unfolding OnExactly count
 rest_one rules k p ps true e f h = ((f, eqb-true (length p.rules) k e), h)
 rest_one rules k p ps false e f h = h
 
-all_resting : (rules : List Rule) (k : ℕ) (ps : List Page) → All (Page-formed rules) ps → All (OnExactly rules k) (resting k ps)
+all_resting : (rules : List Rule) (k : ℕ) (ps : List Page) → All (PageFormed rules) ps → All (OnExactly rules k) (resting k ps)
 all_resting rules k [] h = tt
 all_resting rules k (p ∷ ps) h = rest_one rules k p (resting k ps) (eqb (length p.rules) k) refl h.0 (all_resting rules k ps h.1)
 
-resting_same : (rules : List Rule) (k : ℕ) (ps qs : List Page) → All (Page-formed rules) ps → All (Page-formed rules) qs → On k ps ≡ On k qs → resting k ps ≡ resting k qs
+resting_same : (rules : List Rule) (k : ℕ) (ps qs : List Page) → All (PageFormed rules) ps → All (PageFormed rules) qs → On k ps ≡ On k qs → resting k ps ≡ resting k qs
 unfolding On OnExactly count
 resting_same rules k ps qs f g e =
     map_same page_frame (a_header 0) (OnExactly rules k) (λ p q m n s. page_same rules k p q m.0 n.0 m.1 n.1 s) (resting k ps) (resting k qs) (all_resting rules k ps f) (all_resting rules k qs g) e
 
 -- no page rests on more rules than there are
-no_more : (rules : List Rule) (k : ℕ) (ps : List Page) → length rules < k → All (Page-formed rules) ps → resting k ps ≡ []
+no_more : (rules : List Rule) (k : ℕ) (ps : List Page) → length rules < k → All (PageFormed rules) ps → resting k ps ≡ []
 no_more rules k [] l h = refl
 no_more rules k (p ∷ ps) l h =
     let n = ap length h.0.front ∙ length-take (length p.rules) rules in
@@ -192,7 +192,7 @@ frames_parts c d a b e =
           (ap (λ l. drop 1 l) e)).0,
     )
 
-pages_same : (rules others : List Rule) (ps qs : List Page) → All (Page-formed rules) ps → All (Page-formed rules) qs → Rising ps → Rising qs → Agree 0 rules others ps qs → ps ≡ qs
+pages_same : (rules others : List Rule) (ps qs : List Page) → All (PageFormed rules) ps → All (PageFormed rules) qs → Rising ps → Rising qs → Agree 0 rules others ps qs → ps ≡ qs
 pages_same rules others ps qs f g r s agree = rising_same ps qs r s (λ k. ⊎_elim
     (λ (less : length rules < k). no_more rules k ps less f ∙ sym (no_more rules k qs less g))
     (λ (most : k ≤ length rules). resting_same rules k ps qs f g (agree.pages k (omega arith) (omega arith)))
@@ -203,7 +203,7 @@ unfolding text_of
 one_book c d a b f g e =
     let parts = frames_parts c d a b (lines_same (frames_of c a) (frames_of d b) e) in
     let agree = inner_same 0 a.rules b.rules a.pages b.pages parts.1 in
-    let rules : a.rules ≡ b.rules = map_same rule_frame (a_header 0) Rule-formed rule_same a.rules b.rules f.rules g.rules agree.rules in
-    let pages = pages_same a.rules b.rules a.pages b.pages f.pages (subst (λ rs. All (Page-formed rs) b.pages) (sym rules) g.pages) f.rising g.rising agree in
+    let rules : a.rules ≡ b.rules = map_same rule_frame (a_header 0) RuleFormed rule_same a.rules b.rules f.rules g.rules agree.rules in
+    let pages = pages_same a.rules b.rules a.pages b.pages f.pages (subst (λ rs. All (PageFormed rs) b.pages) (sym rules) g.pages) f.rising g.rising agree in
     let made : List Rule → List Page → Account = λ rs ps. record { rules = rs; pages = ps } in
     (parts.0, ap (λ rs. made rs a.pages) rules ∙ ap (made b.rules) pages)

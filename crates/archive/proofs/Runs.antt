@@ -15,7 +15,7 @@ use Rattle.account.specs.Naming.{NamesHead, entry_named, rule_named}
 use Rattle.account.specs.Account.{Page, Account, blank, Call, enter, withdraw, file, lodge, Answer, accepted, refused, Step, Run}
 use Rattle.account.specs.Kept.{PageBorne, Front, Kept}
 use Rattle.account.proofs.Kept.{front_length, step_kept, blank_kept}
-use Rattle.archive.specs.Formed.{HeadFormed, Rule-formed, Page-formed, Rising}
+use Rattle.archive.specs.Formed.{HeadFormed, RuleFormed, PageFormed, Rising}
 use Rattle.archive.specs.Laws.{RunsFormed}
 
 -- ---- rules
@@ -35,7 +35,7 @@ names h not = ⊎_elim (λ l. inl l)
     (λ l. ⊎_elim (λ e. inr e) (λ other. absurd (not (λ n. ⊎_elim (λ k. omega arith) other n))) (cases_eq h 255))
     (cases_lt h 64)
 
-rule_formed : (h : ℕ) (body : List ℕ) → NamesHead h → length body ≤ max_body → Rule-formed (rule_named h body)
+rule_formed : (h : ℕ) (body : List ℕ) → NamesHead h → length body ≤ max_body → RuleFormed (rule_named h body)
 rule_formed h body n l =
     let same = length-map body entry_named in
     record { head = head_by (eqb h 255) h refl n; short = omega arith; named = conditions_formed body }
@@ -55,21 +55,21 @@ set_small s ranks r =
     (λ l. let n = r.places in let k = (r.inside d m).0 in let z : rank ranks d ≡ 0 = get_or_past ranks d 0 (omega arith) in absurd (omega arith))
     (cases_lt d 64)) (collect_lt 64 (λ d. true))
 
-page_formed : (m : Meaning) (rules : List Rule) (p : Page) → PageBorne m p → Front rules p → Page-formed rules p
+page_formed : (m : Meaning) (rules : List Rule) (p : Page) → PageBorne m p → Front rules p → PageFormed rules p
 page_formed m rules p b f = record { small = set_small p.«set» p.ranks b.ranked; ranked = b.ranked; front = f }
 
 -- ---- calls
 
 -- what calls keep besides
 record Grown (a : Account) : Type 0 where
-  rules : All Rule-formed a.rules
+  rules : All RuleFormed a.rules
   rising : Rising a.pages
 
 page_added : (m : Meaning) (a z : Account) (p : Page) → Kept m a → Grown a → z.rules ≡ a.rules → p.rules ≡ a.rules → z.pages ≡ a.pages ++ p ∷ [] → Grown z
 page_added m a z p k g same on more =
     let n = ap length on in
     record {
-      rules = subst (All Rule-formed) (sym same) g.rules;
+      rules = subst (All RuleFormed) (sym same) g.rules;
       rising = subst Rising (sym more) (rising_push a.pages p g.rising
           (All-weaker (Front a.rules) (λ q. length q.rules ≤ length p.rules) (λ q f. let l = front_length a.rules q f in omega arith) a.pages k.fronts));
     }
@@ -81,12 +81,12 @@ step_grown m a (enter h body) (accepted n) z k g (free, (e, more, same)) =
     let named = names h (λ not. free 11 [] (inl (refl, refl, not))) in
     let short : length body ≤ max_body = ⊎_elim (λ (l : max_body < length body). absurd (free 12 [] (inr (inl (refl, refl, l))))) (λ l. l) (cases_lt max_body (length body)) in
     record {
-      rules = subst (All Rule-formed) (sym more) (All-push Rule-formed a.rules (rule_named h body) g.rules (rule_formed h body named short));
+      rules = subst (All RuleFormed) (sym more) (All-push RuleFormed a.rules (rule_named h body) g.rules (rule_formed h body named short));
       rising = subst Rising (sym same) g.rising;
     }
 step_grown m a withdraw (accepted n) z k g (free, ((last, less), e, same)) =
     record {
-      rules = all_left Rule-formed z.rules (last ∷ []) (subst (All Rule-formed) less g.rules);
+      rules = all_left RuleFormed z.rules (last ∷ []) (subst (All RuleFormed) less g.rules);
       rising = subst Rising (sym same) g.rising;
     }
 step_grown m a (file w M) (accepted n) z k g (free, (e, (ranks, p, (same, more)))) = page_added m a z (record { way = w; «set» = M; ranks = ranks; rules = a.rules }) k g same refl more
@@ -108,6 +108,6 @@ runs_formed m lawful cs rs z p =
       few_rules = k.few_rules;
       few_pages = k.few_pages;
       rules = both.1.rules;
-      pages = all_zip (PageBorne m) (Front z.rules) (Page-formed z.rules) (page_formed m z.rules) z.pages k.borne k.fronts;
+      pages = all_zip (PageBorne m) (Front z.rules) (PageFormed z.rules) (page_formed m z.rules) z.pages k.borne k.fronts;
       rising = both.1.rising;
     }

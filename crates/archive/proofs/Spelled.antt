@@ -13,7 +13,7 @@ use Rattle.frames.specs.Frames.{spelled}
 use Rattle.frames.proofs.Known.{two_same, way_same, eight_same}
 use Rattle.account.specs.Naming.{head_number}
 use Rattle.archive.specs.Text.{entry_number, body_bytes, rule_frame, page_frame}
-use Rattle.archive.specs.Formed.{HeadFormed, Rule-formed, Page-formed}
+use Rattle.archive.specs.Formed.{HeadFormed, RuleFormed, PageFormed}
 
 head_same : (g h : Head) → HeadFormed g → HeadFormed h → head_number g ≡ head_number h → g ≡ h
 head_same (decision c) (decision d) k l e = ap decision e
@@ -41,7 +41,7 @@ body_same (b ∷ bs) (c ∷ cs) k l e =
     let number = two_same (entry_number b) (entry_number c) (ap (λ x. get_or x 0 0) e) (ap (λ x. get_or x 1 0) e) in
     ap (λ x. x ∷ bs) (entry_same b c k.0 l.0 number) ∙ ap (λ x. c ∷ x) (body_same bs cs k.1 l.1 (ap (λ x. drop 2 x) e))
 
-pub rule_same : (r s : Rule) → Rule-formed r → Rule-formed s → rule_frame r ≡ rule_frame s → r ≡ s
+pub rule_same : (r s : Rule) → RuleFormed r → RuleFormed s → rule_frame r ≡ rule_frame s → r ≡ s
 unfolding rule_frame
 rule_same r s f g same =
     let e = ap spelled same in
@@ -67,7 +67,7 @@ ranks_same s ranks others small r o e =
     (cases_Bool (has s d)))
 
 -- pages on the same number of the same rules
-pub page_same : (rules : List Rule) (k : ℕ) (p q : Page) → Page-formed rules p → Page-formed rules q → length p.rules ≡ k → length q.rules ≡ k → page_frame p ≡ page_frame q → p ≡ q
+pub page_same : (rules : List Rule) (k : ℕ) (p q : Page) → PageFormed rules p → PageFormed rules q → length p.rules ≡ k → length q.rules ≡ k → page_frame p ≡ page_frame q → p ≡ q
 unfolding page_frame
 page_same rules k p q f g m n spell =
     let e = ap spelled spell in

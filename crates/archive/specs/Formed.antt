@@ -11,13 +11,13 @@ abbrev pub HeadFormed : Head → Type 0
 HeadFormed (decision d) = d < 64
 HeadFormed no_head = Unit {0}
 
-pub record Rule-formed (r : Rule) : Type 0 where
+pub record RuleFormed (r : Rule) : Type 0 where
   pub head : HeadFormed r.head
   pub short : length r.body ≤ max_body
   pub named : All (λ e. e.condition < 32768) r.body
 
 -- a page has ranks for its set, and rests on the first of the rules
-pub record Page-formed (rules : List Rule) (p : Page) : Type 0 where
+pub record PageFormed (rules : List Rule) (p : Page) : Type 0 where
   pub small : p.«set» < 2 ^ 64
   pub ranked : Ranked p.«set» p.ranks
   pub front : Front rules p
@@ -32,6 +32,6 @@ pub record Formed (count : ℕ) (a : Account) : Type 0 where
   pub counted : count < 2 ^ 16
   pub few_rules : length a.rules ≤ max_rules
   pub few_pages : length a.pages ≤ max_pages
-  pub rules : All Rule-formed a.rules
-  pub pages : All (Page-formed a.rules) a.pages
+  pub rules : All RuleFormed a.rules
+  pub pages : All (PageFormed a.rules) a.pages
   pub rising : Rising a.pages

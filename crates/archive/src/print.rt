@@ -108,8 +108,8 @@ pub fn print_text(
 // Prints the text of a ledger.
 fn print_ledger<B: Bank>(ledger: &Ledger<B>, memory: &mut [u8]) -> Result<usize, Refusal>
     ensures { MatchResult result
-        (λ n. Printed (text_of (meaning ledger.now.bank).count (view ledger.now)) memory.old n memory.new)
-        (λ e. Refused (text_of (meaning ledger.now.bank).count (view ledger.now)) memory.old e memory.new) }
+        (λ n. Printed (text_of (B.meaning ledger.now.bank).count (view ledger.now)) memory.old n memory.new)
+        (λ e. Refused (text_of (B.meaning ledger.now.bank).count (view ledger.now)) memory.old e memory.new) }
 {
     print_text(ledger.count(), ledger.rules(), ledger.pages(), memory)
 }
@@ -117,8 +117,8 @@ fn print_ledger<B: Bank>(ledger: &Ledger<B>, memory: &mut [u8]) -> Result<usize,
 // Prints the text of a book in the caller's memory, and answers its length.
 pub fn print_book<B: Bank>(book: &OpenBook<B>, memory: &mut [u8]) -> Result<usize, Refusal>
     ensures { MatchResult result
-        (λ n. Printed (text_of (meaning book.now.ledger.bank).count (view book.now.ledger)) memory.old n memory.new)
-        (λ e. Refused (text_of (meaning book.now.ledger.bank).count (view book.now.ledger)) memory.old e memory.new) }
+        (λ n. Printed (text_of (B.meaning book.now.ledger.bank).count (view book.now.ledger)) memory.old n memory.new)
+        (λ e. Refused (text_of (B.meaning book.now.ledger.bank).count (view book.now.ledger)) memory.old e memory.new) }
 {
     print_ledger(book.ledger(), memory)
 }

@@ -5,7 +5,7 @@ ghost use Rattle.rows.specs.Listings.{Lists};
 ghost use Rattle.rules.specs.Shapes.{way_of};
 ghost use Rattle.account.specs.Account.{blank, enter, withdraw, file, lodge, Accepted, Free, Step};
 ghost use Rattle.search.specs.Gathering.{Gathers};
-ghost use Rattle.search.specs.Search.{Found, Refused, HasManyHeads, Lowest-answer, NoAnswer};
+ghost use Rattle.search.specs.Search.{Found, Refused, HasManyHeads, LowestAnswer, NoAnswer};
 ghost use Rattle.book.specs.Looking.{Shown, Breaches};
 ghost use Rattle.book.specs.View.{view, answer_of};
 
@@ -45,7 +45,7 @@ impl<B: Bank> OpenBook<B> {
     // Puts a rule last, and answers its number. The head is a decision's number, or 255 for none; an entry is a condition's number, and
     // 0x8000 more with "not" before it.
     pub fn enter(&mut self, head: u8, body: &[u16]) -> Result<usize, Refusal>
-        ensures step { Step (meaning self.old.ledger.bank) (view self.old.ledger) (enter head body.now) (answer_of result) (view self.new.ledger) }
+        ensures step { Step (B.meaning self.old.ledger.bank) (view self.old.ledger) (enter head body.now) (answer_of result) (view self.new.ledger) }
         ensures same { self.new.ledger.bank ≡ self.old.ledger.bank }
     {
         self.ledger.enter(head, body)
@@ -53,7 +53,7 @@ impl<B: Bank> OpenBook<B> {
 
     // Strikes the last rule, and answers how many are left.
     pub fn withdraw(&mut self) -> Result<usize, Refusal>
-        ensures step { Step (meaning self.old.ledger.bank) (view self.old.ledger) withdraw (answer_of result) (view self.new.ledger) }
+        ensures step { Step (B.meaning self.old.ledger.bank) (view self.old.ledger) withdraw (answer_of result) (view self.new.ledger) }
         ensures same { self.new.ledger.bank ≡ self.old.ledger.bank }
     {
         self.ledger.withdraw()
@@ -61,9 +61,9 @@ impl<B: Bank> OpenBook<B> {
 
     // Adds a page of a set with the ranks of the rounds, and answers its number.
     pub fn file(&mut self, way: Way, set: Set) -> Result<usize, Refusal>
-        ensures step { Step (meaning self.old.ledger.bank) (view self.old.ledger) (file (way_of way) set) (answer_of result) (view self.new.ledger) }
+        ensures step { Step (B.meaning self.old.ledger.bank) (view self.old.ledger) (file (way_of way) set) (answer_of result) (view self.new.ledger) }
         ensures published { Accepted (answer_of result)
-            ↔ (Free (view self.old.ledger) × AnswerSetBy (way_of way) (program (meaning self.old.ledger.bank) (view self.old.ledger).rules) set) }
+            ↔ (Free (view self.old.ledger) × AnswerSetBy (way_of way) (program (B.meaning self.old.ledger.bank) (view self.old.ledger).rules) set) }
         ensures same { self.new.ledger.bank ≡ self.old.ledger.bank }
     {
         self.ledger.file(way, set)
@@ -71,7 +71,7 @@ impl<B: Bank> OpenBook<B> {
 
     // Adds a page of a set with the given ranks, if they bear it, and answers its number.
     pub fn lodge(&mut self, way: Way, set: Set, ranks: &[u8]) -> Result<usize, Refusal>
-        ensures step { Step (meaning self.old.ledger.bank) (view self.old.ledger) (lodge (way_of way) set ranks.now) (answer_of result) (view self.new.ledger) }
+        ensures step { Step (B.meaning self.old.ledger.bank) (view self.old.ledger) (lodge (way_of way) set ranks.now) (answer_of result) (view self.new.ledger) }
         ensures same { self.new.ledger.bank ≡ self.old.ledger.bank }
     {
         self.ledger.lodge(way, set, ranks)
@@ -86,7 +86,7 @@ impl<B: Bank> OpenBook<B> {
 
     // Lists the rules that a set breaks in the caller's memory, lowest first.
     pub fn breaches(&self, set: Set, places: &mut [Breach]) -> Listing<Breach>
-        ensures { (items : List Breach) × Breaches (meaning self.now.ledger.bank) set 0 (view self.now.ledger).rules items × Lists items places.old result places.new }
+        ensures { (items : List Breach) × Breaches (B.meaning self.now.ledger.bank) set 0 (view self.now.ledger).rules items × Lists items places.old result places.new }
     {
         self.ledger.breaches(set, places)
     }
@@ -94,11 +94,11 @@ impl<B: Bank> OpenBook<B> {
     // The lowest answer set by that way that is not below `start`, and how many sets drawn from the heads were tried for it.
     pub fn next(&self, way: Way, start: Set) -> Result<(Set, usize), Refusal>
         ensures found { MatchResult result
-            (λ p. Found (meaning self.now.ledger.bank) (way_of way) (view self.now.ledger).rules start p.0 p.1)
-            (λ e. Refused (meaning self.now.ledger.bank) (way_of way) (view self.now.ledger).rules start e) }
+            (λ p. Found (B.meaning self.now.ledger.bank) (way_of way) (view self.now.ledger).rules start p.0 p.1)
+            (λ e. Refused (B.meaning self.now.ledger.bank) (way_of way) (view self.now.ledger).rules start e) }
         ensures published { MatchResult result
-            (λ p. Lowest-answer (meaning self.now.ledger.bank) (way_of way) (view self.now.ledger).rules start p.0)
-            (λ e. number e ≡ 28 → NoAnswer (meaning self.now.ledger.bank) (way_of way) (view self.now.ledger).rules start) }
+            (λ p. LowestAnswer (B.meaning self.now.ledger.bank) (way_of way) (view self.now.ledger).rules start p.0)
+            (λ e. number e ≡ 28 → NoAnswer (B.meaning self.now.ledger.bank) (way_of way) (view self.now.ledger).rules start) }
     {
         self.ledger.next(way, start)
     }
@@ -106,7 +106,7 @@ impl<B: Bank> OpenBook<B> {
     // Lists the answer sets by that way that are not below `start` in the caller's memory, lowest first.
     pub fn gather(&self, way: Way, start: Set, places: &mut [Set]) -> Result<Listing<Set>, Refusal>
         ensures { MatchResult result
-            (λ listing. Gathers (meaning self.now.ledger.bank) (way_of way) (view self.now.ledger).rules start places.old listing places.new)
+            (λ listing. Gathers (B.meaning self.now.ledger.bank) (way_of way) (view self.now.ledger).rules start places.old listing places.new)
             (λ e. Says e 27 [] × HasManyHeads (view self.now.ledger).rules × (places.new ≡ places.old)) }
     {
         self.ledger.gather(way, start, places)

@@ -2,7 +2,7 @@ ghost use Rattle.std.specs.Prelude.{◌≡◌, MatchResult};
 ghost use Rattle.refusals.specs.Numbers.{number};
 ghost use Rattle.listed.specs.Tables.{listed};
 ghost use Rattle.rules.specs.Shapes.{way_of};
-ghost use Rattle.search.specs.Search.{Lowest-answer, NoAnswer};
+ghost use Rattle.search.specs.Search.{LowestAnswer, NoAnswer};
 ghost use Rattle.exported.specs.Numbered.{bank, way_numbered, rules_numbered};
 
 use crate::building::{rules_of, table_of, way_named};
@@ -23,7 +23,7 @@ fn search_over<'a>(
     start: Set,
 ) -> Result<(Set, usize), Refusal>
     ensures { MatchResult result
-        (λ p. Lowest-answer (listed lines.now sets.now) (way_of way) (rules_numbered rules.now) start p.0)
+        (λ p. LowestAnswer (listed lines.now sets.now) (way_of way) (rules_numbered rules.now) start p.0)
         (λ e. number e ≡ 28 → NoAnswer (listed lines.now sets.now) (way_of way) (rules_numbered rules.now) start) }
 {
     let mut loaded = ListedBank::new();
@@ -41,7 +41,7 @@ fn search_numbered(
     start: Set,
 ) -> Result<(Set, usize), Refusal>
     ensures { MatchResult result
-        (λ p. Lowest-answer (bank conditions.now sets.now) (way_numbered way) (rules_numbered rules.now) start p.0)
+        (λ p. LowestAnswer (bank conditions.now sets.now) (way_numbered way) (rules_numbered rules.now) start p.0)
         (λ e. number e ≡ 28 → NoAnswer (bank conditions.now sets.now) (way_numbered way) (rules_numbered rules.now) start) }
 {
     let way = way_named(way)?;
@@ -68,7 +68,7 @@ pub extern "C" fn season_next_set(
     start: Set,
     found: &mut FoundNumbers,
 ) -> u8
-    ensures lowest { result ≡ 0 → Lowest-answer (bank conditions.now sets.now) (way_numbered way) (rules_numbered rules.now) start found.new.set }
+    ensures lowest { result ≡ 0 → LowestAnswer (bank conditions.now sets.now) (way_numbered way) (rules_numbered rules.now) start found.new.set }
     ensures none { result ≡ 28 → NoAnswer (bank conditions.now sets.now) (way_numbered way) (rules_numbered rules.now) start }
 {
     match search_numbered(conditions, sets, rules, way, start) {

@@ -1,5 +1,5 @@
 ghost use Rattle.std.specs.Prelude.{◌≡◌, [], ◌∷◌, MatchResult};
-ghost use Rattle.hexlines.specs.declared.fault.Layer.TheVariants.{Frame as At-frame};
+ghost use Rattle.hexlines.specs.declared.fault.Layer.TheVariants.{Frame as AtFrame};
 ghost use Rattle.frames.specs.Bytes.{in_eight, NamesWay};
 ghost use Rattle.frames.specs.Frames.{Spells, NoFrame};
 ghost use Rattle.frames.specs.Shapes.{frame_of};
@@ -30,7 +30,7 @@ fn number_of(a: u8, b: u8, c: u8, d: u8, e: u8, f: u8, g: u8, h: u8) -> u64
 pub fn frame_of(bytes: &[u8], line: usize) -> Result<Frame<'_>, Fault>
     ensures { MatchResult result
         (λ f. Spells bytes.now (frame_of f))
-        (λ e. (e ≡ record { line = line; layer = At-frame; number = 19 }) × NoFrame bytes.now) }
+        (λ e. (e ≡ record { line = line; layer = AtFrame; number = 19 }) × NoFrame bytes.now) }
 {
     let fault = Fault {
         line,

@@ -29,7 +29,7 @@ pub fn ranked(ranks: &[u8], set: Set) -> bool
 
 // Whether the rule gives decision b over the span.
 fn gives<B: Bank>(bank: &B, way: Way, rule: &Rule, span: Span, b: u8) -> bool
-    ensures { Decides result (Gives (meaning bank.now) (way_of way) span.lower span.upper b (rule_of rule.now)) }
+    ensures { Decides result (Gives (B.meaning bank.now) (way_of way) span.lower span.upper b (rule_of rule.now)) }
 {
     match rule.head() {
         Head::Absent => false,
@@ -44,7 +44,7 @@ fn gives<B: Bank>(bank: &B, way: Way, rule: &Rule, span: Span, b: u8) -> bool
 
 // Whether some rule gives decision b over the span.
 fn given<B: Bank>(bank: &B, way: Way, rules: &[Rule], span: Span, b: u8) -> bool
-    ensures { Decides result (Any (Gives (meaning bank.now) (way_of way) span.lower span.upper b) (rules_of rules.now)) }
+    ensures { Decides result (Any (Gives (B.meaning bank.now) (way_of way) span.lower span.upper b) (rules_of rules.now)) }
 {
     for rule in rules {
         if gives(bank, way, rule, span, b) {
@@ -78,7 +78,7 @@ fn lower_of(ranks: &[u8], set: Set, b: u8) -> Set
 // Whether b is not in the set, or some rule gives it over the span from the lower-ranked decisions to the set.
 fn backed<B: Bank>(bank: &B, way: Way, rules: &[Rule], set: Set, ranks: &[u8], b: u8) -> bool
     requires { (length ranks.now ≡ 64) × (b < 64) }
-    ensures { Decides result (b ∈ set → Any (Gives (meaning bank.now) (way_of way) (below set ranks.now b) set b) (rules_of rules.now)) }
+    ensures { Decides result (b ∈ set → Any (Gives (B.meaning bank.now) (way_of way) (below set ranks.now b) set b) (rules_of rules.now)) }
 {
     if !contains_place(set, b) {
         return true;
@@ -90,7 +90,7 @@ fn backed<B: Bank>(bank: &B, way: Way, rules: &[Rule], set: Set, ranks: &[u8], b
 // Whether some rule gives each decision of the set over the span from its lower-ranked ones.
 fn supported<B: Bank>(bank: &B, way: Way, rules: &[Rule], set: Set, ranks: &[u8]) -> bool
     requires { length ranks.now ≡ 64 }
-    ensures { Decides result ((b : ℕ) → b ∈ set → Any (Gives (meaning bank.now) (way_of way) (below set ranks.now b) set b) (rules_of rules.now)) }
+    ensures { Decides result ((b : ℕ) → b ∈ set → Any (Gives (B.meaning bank.now) (way_of way) (below set ranks.now b) set b) (rules_of rules.now)) }
 {
     for b in 0..64u8 {
         if !backed(bank, way, rules, set, ranks, b) {
@@ -102,7 +102,7 @@ fn supported<B: Bank>(bank: &B, way: Way, rules: &[Rule], set: Set, ranks: &[u8]
 
 // Whether the ranks bear the set.
 pub fn bears<B: Bank>(bank: &B, way: Way, rules: &[Rule], set: Set, ranks: &[u8]) -> bool
-    ensures { Decides result (Bears (meaning bank.now) (way_of way) (rules_of rules.now) set ranks.now) }
+    ensures { Decides result (Bears (B.meaning bank.now) (way_of way) (rules_of rules.now) set ranks.now) }
 {
     if !ranked(ranks, set) {
         return false;

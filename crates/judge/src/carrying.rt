@@ -11,7 +11,7 @@ use sets::span::Span;
 
 // Whether an entry is carried over a span.
 pub fn carried<B: Bank>(bank: &B, way: Way, e: Entry, span: Span) -> bool
-    ensures { Decides result (Carried (meaning bank.now) (way_of way) (entry_of e) span.lower span.upper) }
+    ensures { Decides result (Carried (B.meaning bank.now) (way_of way) (entry_of e) span.lower span.upper) }
 {
     if !e.negated {
         return bank.always(e.condition, span);
@@ -24,7 +24,7 @@ pub fn carried<B: Bank>(bank: &B, way: Way, e: Entry, span: Span) -> bool
 
 // Whether every entry of a body is carried over a span.
 pub fn all_carried<B: Bank>(bank: &B, way: Way, body: &[Entry], span: Span) -> bool
-    ensures { Decides result (All (λ e. Carried (meaning bank.now) (way_of way) e span.lower span.upper) (map entry_of body.now)) }
+    ensures { Decides result (All (λ e. Carried (B.meaning bank.now) (way_of way) e span.lower span.upper) (map entry_of body.now)) }
 {
     for e in body {
         if !carried(bank, way, *e, span) {

@@ -12,14 +12,14 @@ use sets::span::Span;
 
 // Whether a condition holds at one set.
 pub(crate) fn meets_at<B: Bank>(bank: &B, k: u16, set: Set) -> bool
-    ensures { result ≡ meets (meaning bank.now) k set }
+    ensures { result ≡ meets (B.meaning bank.now) k set }
 {
     bank.always(k, Span::new(set, set))
 }
 
 // Whether an entry holds at a set.
 pub fn holds_at<B: Bank>(bank: &B, e: Entry, set: Set) -> bool
-    ensures { result ≡ holds (meaning bank.now) (entry_of e) set }
+    ensures { result ≡ holds (B.meaning bank.now) (entry_of e) set }
 {
     let met = meets_at(bank, e.condition, set);
     if e.negated { !met } else { met }
@@ -27,7 +27,7 @@ pub fn holds_at<B: Bank>(bank: &B, e: Entry, set: Set) -> bool
 
 // Whether every entry of a body holds at a set.
 fn body_holds<B: Bank>(bank: &B, body: &[Entry], set: Set) -> bool
-    ensures { Decides result (All (λ e. holds (meaning bank.now) e set ≡ true) (map entry_of body.now)) }
+    ensures { Decides result (All (λ e. holds (B.meaning bank.now) e set ≡ true) (map entry_of body.now)) }
 {
     for e in body {
         if !holds_at(bank, *e, set) {
@@ -39,7 +39,7 @@ fn body_holds<B: Bank>(bank: &B, body: &[Entry], set: Set) -> bool
 
 // Whether some entry of a body fails at a set.
 fn body_fails<B: Bank>(bank: &B, body: &[Entry], set: Set) -> bool
-    ensures { Decides result (All (λ e. holds (meaning bank.now) e set ≡ true) (map entry_of body.now) → ⊥) }
+    ensures { Decides result (All (λ e. holds (B.meaning bank.now) e set ≡ true) (map entry_of body.now) → ⊥) }
 {
     !body_holds(bank, body, set)
 }
@@ -56,7 +56,7 @@ fn head_in(head: Head, set: Set) -> bool
 
 // Whether a set keeps a rule.
 pub fn keeps<B: Bank>(bank: &B, rule: &Rule, set: Set) -> bool
-    ensures { Decides result (Keeps (meaning bank.now) set (rule_of rule.now)) }
+    ensures { Decides result (Keeps (B.meaning bank.now) set (rule_of rule.now)) }
 {
     if head_in(rule.head(), set) {
         return true;
@@ -67,13 +67,13 @@ pub fn keeps<B: Bank>(bank: &B, rule: &Rule, set: Set) -> bool
 // The lowest rule that a set breaks, if it breaks one.
 pub fn lowest_broken<B: Bank>(bank: &B, rules: &[Rule], set: Set) -> Option<usize>
     ensures lowest { MatchOption result
-        (All (Keeps (meaning bank.now) set) (rules_of rules.now))
-        (LowestBroken (meaning bank.now) (rules_of rules.now) set) }
+        (All (Keeps (B.meaning bank.now) set) (rules_of rules.now))
+        (LowestBroken (B.meaning bank.now) (rules_of rules.now) set) }
     ensures broken { MatchOption result
-        (All (Keeps (meaning bank.now) set) (rules_of rules.now))
+        (All (Keeps (B.meaning bank.now) set) (rules_of rules.now))
         (λ i. (i < length rules.now)
-        × HoldsAt (λ x. Keeps (meaning bank.now) set (rule_of x) → ⊥) rules.now i
-        × ((j : ℕ) → j < i → HoldsAt (λ x. Keeps (meaning bank.now) set (rule_of x)) rules.now j)) }
+        × HoldsAt (λ x. Keeps (B.meaning bank.now) set (rule_of x) → ⊥) rules.now i
+        × ((j : ℕ) → j < i → HoldsAt (λ x. Keeps (B.meaning bank.now) set (rule_of x)) rules.now j)) }
 {
     for i in 0..rules.len() {
         if !keeps(bank, &rules[i], set) {
@@ -85,7 +85,7 @@ pub fn lowest_broken<B: Bank>(bank: &B, rules: &[Rule], set: Set) -> Option<usiz
 
 // Whether a set keeps every rule.
 pub fn keeps_all<B: Bank>(bank: &B, rules: &[Rule], set: Set) -> bool
-    ensures { Decides result (All (Keeps (meaning bank.now) set) (rules_of rules.now)) }
+    ensures { Decides result (All (Keeps (B.meaning bank.now) set) (rules_of rules.now)) }
 {
     lowest_broken(bank, rules, set).is_none()
 }

@@ -46,8 +46,8 @@ fn settled(next: Set, reached: Set) -> bool
 // The rank of each decision: the first round that has it, or 0. The rounds end when they have reached the set, or when one adds nothing; so there
 // are no more of them than the set has decisions.
 fn first_rounds<B: Bank>(bank: &B, way: Way, rules: &[Rule], set: Set) -> [u8; 64]
-    requires { All (Keeps (meaning bank.now) set) (rules_of rules.now) }
-    ensures { (d : ℕ) → d < 64 → Stamped (derives (meaning bank.now) (way_of way) (rules_of rules.now) set) 64 d (slice_index result d) }
+    requires { All (Keeps (B.meaning bank.now) set) (rules_of rules.now) }
+    ensures { (d : ℕ) → d < 64 → Stamped (derives (B.meaning bank.now) (way_of way) (rules_of rules.now) set) 64 d (slice_index result d) }
 {
     let mut ranks = [0u8; 64];
     let mut reached = 0;
@@ -81,8 +81,8 @@ fn all_ranked(ranks: &[u8], set: Set) -> bool
 // The ranks of the rounds where some ranks bear the set, and none where none do.
 fn find_ranks<B: Bank>(bank: &B, way: Way, rules: &[Rule], set: Set) -> Option<[u8; 64]>
     ensures { MatchOption result
-        (Borne (meaning bank.now) (way_of way) (rules_of rules.now) set → ⊥)
-        (λ ranks. Rounds (meaning bank.now) (way_of way) (rules_of rules.now) set ranks) }
+        (Borne (B.meaning bank.now) (way_of way) (rules_of rules.now) set → ⊥)
+        (λ ranks. Rounds (B.meaning bank.now) (way_of way) (rules_of rules.now) set ranks) }
 {
     if !keeps_all(bank, rules, set) {
         return None;
@@ -98,13 +98,13 @@ fn find_ranks<B: Bank>(bank: &B, way: Way, rules: &[Rule], set: Set) -> Option<[
 // set that keeps the rules has a decision that this one lacks.
 pub fn rank_set<B: Bank>(bank: &B, way: Way, rules: &[Rule], set: Set) -> Option<[u8; 64]>
     ensures rounds { MatchOption result
-        (Borne (meaning bank.now) (way_of way) (rules_of rules.now) set → ⊥)
-        (λ ranks. Rounds (meaning bank.now) (way_of way) (rules_of rules.now) set ranks) }
+        (Borne (B.meaning bank.now) (way_of way) (rules_of rules.now) set → ⊥)
+        (λ ranks. Rounds (B.meaning bank.now) (way_of way) (rules_of rules.now) set ranks) }
     ensures published { MatchOption result
-        (AnswerSetBy (way_of way) (program (meaning bank.now) (rules_of rules.now)) set → ⊥)
-        (λ _. AnswerSetBy (way_of way) (program (meaning bank.now) (rules_of rules.now)) set) }
+        (AnswerSetBy (way_of way) (program (B.meaning bank.now) (rules_of rules.now)) set → ⊥)
+        (λ _. AnswerSetBy (way_of way) (program (B.meaning bank.now) (rules_of rules.now)) set) }
     ensures minimal { MatchOption result (Unit {0})
-        (λ _. way_of way ≡ complement → (n : ℕ) → n < 2 ^ 64 → All (Keeps (meaning bank.now) n) (rules_of rules.now)
+        (λ _. way_of way ≡ complement → (n : ℕ) → n < 2 ^ 64 → All (Keeps (B.meaning bank.now) n) (rules_of rules.now)
         → (n ≡ set → ⊥) → (d : ℕ) × (d ∈ n) × (d ∉ set)) }
 {
     find_ranks(bank, way, rules, set)

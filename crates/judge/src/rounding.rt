@@ -13,7 +13,7 @@ use sets::span::Span;
 // One round: the lower set of the span with the heads of all rules whose entries are carried over it. A rule whose head is there already
 // is not looked at, and one is left at its first entry that is not carried.
 pub(crate) fn advance<B: Bank>(bank: &B, way: Way, rules: &[Rule], span: Span) -> Set
-    ensures { (d : ℕ) → GivenBy (meaning bank.now) (way_of way) span.lower span.upper (rules_of rules.now) d result }
+    ensures { (d : ℕ) → GivenBy (B.meaning bank.now) (way_of way) span.lower span.upper (rules_of rules.now) d result }
 {
     let mut out = span.lower();
     'rules: for rule in rules {

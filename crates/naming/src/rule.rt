@@ -18,7 +18,7 @@ use rules::rule::{MAX_BODY, Rule};
 
 // Whether an entry's condition is one of the bank's.
 fn is_known<B: Bank>(bank: &B, number: u16) -> bool
-    ensures { Decides result (Known (meaning bank.now) number) }
+    ensures { Decides result (Known (B.meaning bank.now) number) }
 {
     entry_named(number).condition < bank.count()
 }
@@ -26,8 +26,8 @@ fn is_known<B: Bank>(bank: &B, number: u16) -> bool
 // Whether each entry's condition is one of the bank's.
 fn all_known<B: Bank>(bank: &B, body: &[u16]) -> bool
     ensures { MatchBool result
-        (All (Known (meaning bank.now)) body.now)
-        (Any (Unknown (meaning bank.now)) body.now) }
+        (All (Known (B.meaning bank.now)) body.now)
+        (Any (Unknown (B.meaning bank.now)) body.now) }
 {
     for e in body {
         if !is_known(bank, *e) {
@@ -66,8 +66,8 @@ fn rule_with(head: Head, body: &[u16]) -> Option<Rule>
 // The rule that a head's number and the numbers of a body name, over a bank. What is refused here, enter refuses on every book.
 pub fn rule_named<B: Bank>(bank: &B, head: u8, body: &[u16]) -> Result<Rule, Refusal>
     ensures { MatchResult result
-        (λ x. Sound (meaning bank.now) head body.now × (rule_of x ≡ rule_named head body.now))
-        (λ e. (a : Account) → FitsFirst (meaning bank.now) a (enter head body.now) (number e) (told e)) }
+        (λ x. Sound (B.meaning bank.now) head body.now × (rule_of x ≡ rule_named head body.now))
+        (λ e. (a : Account) → FitsFirst (B.meaning bank.now) a (enter head body.now) (number e) (told e)) }
 {
     let Some(head) = head_named(head) else {
         return Err(Refusal::BadHead);

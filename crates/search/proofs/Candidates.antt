@@ -15,7 +15,7 @@ use Rattle.banks.specs.Meaning.{Meaning}
 use Rattle.answer_sets.specs.Rules.{Way, Rule, Borne}
 use Rattle.answer_sets.proofs.Answer.{borne_is_answer_set}
 use Rattle.answer_sets.proofs.Bearing.{given}
-use Rattle.search.specs.Search.{Heads, candidates, Lowest-answer, NoAnswer}
+use Rattle.search.specs.Search.{Heads, candidates, LowestAnswer, NoAnswer}
 use Rattle.search.specs.Ahead.{to_come}
 
 -- what the walk that was sought has to come
@@ -54,7 +54,7 @@ module _ (H : ℕ) (fits : H < 2 ^ 64) (start : ℕ) where
     borne_candidate n l b = to_candidates n (λ d h. (drawn d).1 (given m w rules n b d h)) l
 
     pub lowest_answer : (s : ℕ) (before after : List ℕ) → candidates start H ≡ before ++ s ∷ after → Borne m w rules s
-        → All (λ n. Borne m w rules n → ⊥) before → Lowest-answer m w rules start s
+        → All (λ n. Borne m w rules n → ⊥) before → LowestAnswer m w rules start s
     lowest_answer s before after split b none =
         let k = in_candidates s (subst (λ (l : List ℕ). member s l ≡ true) (sym split) (member_append_right s before (s ∷ after) (member_head s after))) in
         let small : s < 2 ^ 64 = sub_lt 64 s H k.0 fits in

@@ -19,7 +19,7 @@ use Rattle.rows.specs.declared.listing.Ending.{Ending}
 use Rattle.rows.specs.declared.listing.Listing.{Listing}
 use Rattle.search.specs.Search.{Heads, candidates}
 use Rattle.search.specs.Gathering.{Gathered, Gathers}
-use Rattle.search.specs.Ahead.{to_come, Drawn, First-borne, None-borne}
+use Rattle.search.specs.Ahead.{to_come, Drawn, FirstBorne, NoneBorne}
 use Rattle.search.proofs.Candidates.{in_candidates, sorted_candidates, borne_candidate}
 
 -- each set of the list is one of 64 decisions
@@ -41,10 +41,10 @@ module _ (m : Meaning) (w : Way) (rules : List Rule) where
       (all_zip (λ n. n < 2 ^ 64) (λ n. Borne m w rules n → ⊥) (λ n. borneb m w rules n ≡ false)
       (λ n l h. ⊎_elim (λ b. absurd (h (borneb_sound m w rules n l b))) (λ b. b) (cases_Bool (borneb m w rules n))) xs small none)
 
-  pub borne_none : (coming : List ℕ) (tried : ℕ) → Small coming → None-borne m w rules coming tried → borne_of coming ≡ []
+  pub borne_none : (coming : List ℕ) (tried : ℕ) → Small coming → NoneBorne m w rules coming tried → borne_of coming ≡ []
   borne_none coming tried small n = unborne coming small n.none
 
-  module _ (coming rest : List ℕ) (tried s : ℕ) (small : Small coming) (f : First-borne m w rules coming rest tried s) where
+  module _ (coming rest : List ℕ) (tried s : ℕ) (small : Small coming) (f : FirstBorne m w rules coming rest tried s) where
     halves : Small (f.before ++ s ∷ rest)
     halves = subst Small f.split small
 

@@ -23,7 +23,7 @@ pub record Drawn (rules : List Rule) (start : ℕ) (walk : Option Walk) : Type 0
   pub coming : to_come walk ≡ candidates start heads
 
 -- of the sets to come, s is the first that some ranks bear, `rest` comes after it, and `tried` counts those up to it
-pub record First-borne (m : Meaning) (w : Way) (rules : List Rule) (coming rest : List ℕ) (tried s : ℕ) : Type 0 where
+pub record FirstBorne (m : Meaning) (w : Way) (rules : List Rule) (coming rest : List ℕ) (tried s : ℕ) : Type 0 where
   pub before : List ℕ
   pub split : coming ≡ before ++ s ∷ rest
   pub count : tried ≡ length before + 1
@@ -31,11 +31,11 @@ pub record First-borne (m : Meaning) (w : Way) (rules : List Rule) (coming rest 
   pub none_before : All (λ n. Borne m w rules n → ⊥) before
 
 -- no ranks bear one of the sets to come, and `tried` counts them all
-pub record None-borne (m : Meaning) (w : Way) (rules : List Rule) (coming : List ℕ) (tried : ℕ) : Type 0 where
+pub record NoneBorne (m : Meaning) (w : Way) (rules : List Rule) (coming : List ℕ) (tried : ℕ) : Type 0 where
   pub count : tried ≡ length coming
   pub none : All (λ n. Borne m w rules n → ⊥) coming
 
 -- the search stopped at the first set to come that some ranks bear, or went through them all
 abbrev pub Stops : Meaning → Way → List Rule → List ℕ → Stop → Type 0
 Stops m w rules coming stop =
-    MatchOption stop.found (None-borne m w rules coming stop.tried) (λ s. First-borne m w rules coming (to_come stop.ahead) stop.tried s)
+    MatchOption stop.found (NoneBorne m w rules coming stop.tried) (λ s. FirstBorne m w rules coming (to_come stop.ahead) stop.tried s)

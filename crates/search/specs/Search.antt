@@ -30,7 +30,7 @@ pub record Found (m : Meaning) (w : Way) (rules : List Rule) (start s tried : �
   pub none_before : All (λ n. Borne m w rules n → ⊥) before
 
 -- no ranks bear a candidate, and `tried` counts them all
-pub record None-found (m : Meaning) (w : Way) (rules : List Rule) (start tried : ℕ) : Type 0 where
+pub record NoneFound (m : Meaning) (w : Way) (rules : List Rule) (start tried : ℕ) : Type 0 where
   pub heads : ℕ
   pub drawn : Heads rules heads
   pub few : size heads ≤ 16
@@ -44,10 +44,10 @@ HasManyHeads rules = (H : ℕ) × Heads rules H × (16 < size H)
 -- the refusal is 27 for too many heads, or 28 where no candidate is borne, and tells how many there were
 abbrev pub Refused : Meaning → Way → List Rule → ℕ → Refusal → Type 0
 Refused m w rules start e =
-    (Says e 27 [] × HasManyHeads rules) ⊎ ((tried : ℕ) × Says e 28 (tried ∷ []) × None-found m w rules start tried)
+    (Says e 27 [] × HasManyHeads rules) ⊎ ((tried : ℕ) × Says e 28 (tried ∷ []) × NoneFound m w rules start tried)
 
 -- s is the lowest answer set that is not below start, of all sets, drawn from the heads or not
-pub record Lowest-answer (m : Meaning) (w : Way) (rules : List Rule) (start s : ℕ) : Type 0 where
+pub record LowestAnswer (m : Meaning) (w : Way) (rules : List Rule) (start s : ℕ) : Type 0 where
   pub fits : s < 2 ^ 64
   pub not_below : start ≤ s
   pub answer : AnswerSetBy w (program m rules) s

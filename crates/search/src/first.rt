@@ -29,7 +29,7 @@ fn one_more(tried: usize) -> usize
 
 // Whether some ranks bear a set.
 fn is_borne<B: Bank>(bank: &B, way: Way, rules: &[Rule], set: Set) -> bool
-    ensures { Decides result (Borne (meaning bank.now) (way_of way) (rules_of rules.now) set) }
+    ensures { Decides result (Borne (B.meaning bank.now) (way_of way) (rules_of rules.now) set) }
 {
     rank_set(bank, way, rules, set).is_some()
 }
@@ -37,7 +37,7 @@ fn is_borne<B: Bank>(bank: &B, way: Way, rules: &[Rule], set: Set) -> bool
 // Goes on to the first set that some ranks bear. A set is left at the first rule that it breaks; rounds are computed only of one that breaks none.
 pub(crate) fn first_borne<B: Bank>(bank: &B, way: Way, rules: &[Rule], from: Option<Walk>) -> Stop
     requires { length (to_come from) ≤ 65536 }
-    ensures { Stops (meaning bank.now) (way_of way) (rules_of rules.now) (to_come from) result }
+    ensures { Stops (B.meaning bank.now) (way_of way) (rules_of rules.now) (to_come from) result }
 {
     let mut ahead = from;
     let mut tried = 0;

@@ -24,7 +24,7 @@ pub fn gather_sets<B: Bank>(
     places: &mut [Set],
 ) -> Result<Listing<Set>, Refusal>
     ensures { MatchResult result
-        (λ listing. Gathers (meaning bank.now) (way_of way) (rules_of rules.now) start places.old listing places.new)
+        (λ listing. Gathers (B.meaning bank.now) (way_of way) (rules_of rules.now) start places.old listing places.new)
         (λ e. Says e 27 [] × HasManyHeads (rules_of rules.now) × (places.new ≡ places.old)) }
 {
     let mut ahead = draw(rules, start)?;

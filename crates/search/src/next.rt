@@ -1,7 +1,7 @@
 ghost use Rattle.std.specs.Prelude.{◌≡◌, MatchResult};
 ghost use Rattle.refusals.specs.Numbers.{number};
 ghost use Rattle.rules.specs.Shapes.{way_of, rules_of};
-ghost use Rattle.search.specs.Search.{Found, Refused, Lowest-answer, NoAnswer};
+ghost use Rattle.search.specs.Search.{Found, Refused, LowestAnswer, NoAnswer};
 
 use crate::drawing::draw;
 use crate::first::first_borne;
@@ -20,11 +20,11 @@ pub fn next_set<B: Bank>(
     start: Set,
 ) -> Result<(Set, usize), Refusal>
     ensures found { MatchResult result
-        (λ p. Found (meaning bank.now) (way_of way) (rules_of rules.now) start p.0 p.1)
-        (λ e. Refused (meaning bank.now) (way_of way) (rules_of rules.now) start e) }
+        (λ p. Found (B.meaning bank.now) (way_of way) (rules_of rules.now) start p.0 p.1)
+        (λ e. Refused (B.meaning bank.now) (way_of way) (rules_of rules.now) start e) }
     ensures published { MatchResult result
-        (λ p. Lowest-answer (meaning bank.now) (way_of way) (rules_of rules.now) start p.0)
-        (λ e. number e ≡ 28 → NoAnswer (meaning bank.now) (way_of way) (rules_of rules.now) start) }
+        (λ p. LowestAnswer (B.meaning bank.now) (way_of way) (rules_of rules.now) start p.0)
+        (λ e. number e ≡ 28 → NoAnswer (B.meaning bank.now) (way_of way) (rules_of rules.now) start) }
 {
     let from = draw(rules, start)?;
     let stop = first_borne(bank, way, rules, from);

@@ -27,7 +27,7 @@ pub(crate) fn ask_always<M: Measure>(
 ) -> bool
     requires narrow { size c.domain ≤ 12 }
     requires placed { c.first + size c.domain ≤ length weights.now }
-    ensures { Decides result ((f : ℕ) → Between (span.lower ∩ c.domain) (span.upper ∩ c.domain) f → (allowed scale c weights.now && balanced scale c weights.now f) ≡ true) }
+    ensures { Decides result ((f : ℕ) → Between (span.lower ∩ c.domain) (span.upper ∩ c.domain) f → (allowed M.scale c weights.now && balanced M.scale c weights.now f) ≡ true) }
 {
     let row = row_of(&c, weights);
     if !allows::<M>(c.low, c.high, row) {
@@ -50,7 +50,7 @@ pub(crate) fn ask_never<M: Measure>(
 ) -> bool
     requires narrow { size c.domain ≤ 12 }
     requires placed { c.first + size c.domain ≤ length weights.now }
-    ensures { Decides result ((f : ℕ) → Between (span.lower ∩ c.domain) (span.upper ∩ c.domain) f → (allowed scale c weights.now && balanced scale c weights.now f) ≡ false) }
+    ensures { Decides result ((f : ℕ) → Between (span.lower ∩ c.domain) (span.upper ∩ c.domain) f → (allowed M.scale c weights.now && balanced M.scale c weights.now f) ≡ false) }
 {
     let row = row_of(&c, weights);
     if !allows::<M>(c.low, c.high, row) {

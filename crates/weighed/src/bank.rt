@@ -26,7 +26,7 @@ pub struct WeighedBank<'a, M: Measure> {
 impl<'a, M: Measure> WeighedBank<'a, M> {
     // A bank with no conditions.
     pub fn new() -> WeighedBank<'a, M>
-        ensures { guarded scale result.conditions.now result.weights.now ≡ no_conditions }
+        ensures { guarded M.scale result.conditions.now result.weights.now ≡ no_conditions }
     {
         WeighedBank {
             conditions: &[],
@@ -41,11 +41,11 @@ impl<'a, M: Measure> WeighedBank<'a, M> {
         weights: &'a [M::Raw],
     ) -> Result<(), Refusal>
         ensures { MatchResult result
-            (λ _. Valid scale conditions.now weights.now
-            × (guarded scale self.new.conditions.now self.new.weights.now ≡ weighed scale conditions.now weights.now))
-            (λ e. (Valid scale conditions.now weights.now → ⊥)
+            (λ _. Valid M.scale conditions.now weights.now
+            × (guarded M.scale self.new.conditions.now self.new.weights.now ≡ weighed M.scale conditions.now weights.now))
+            (λ e. (Valid M.scale conditions.now weights.now → ⊥)
             × Says e 17 []
-            × (guarded scale self.new.conditions.now self.new.weights.now ≡ no_conditions)) }
+            × (guarded M.scale self.new.conditions.now self.new.weights.now ≡ no_conditions)) }
     {
         if valid::<M>(conditions, weights) {
             self.conditions = conditions;
@@ -83,7 +83,7 @@ impl<M: Measure> WeighedBank<'_, M> {
     }
 
     fn always_at(&self, k: u16, span: Span) -> bool
-        ensures { Decides result (Always (guarded scale self.now.conditions.now self.now.weights.now) k span.lower span.upper) }
+        ensures { Decides result (Always (guarded M.scale self.now.conditions.now self.now.weights.now) k span.lower span.upper) }
     {
         match self.at(k) {
             None => false,
@@ -92,7 +92,7 @@ impl<M: Measure> WeighedBank<'_, M> {
     }
 
     fn never_at(&self, k: u16, span: Span) -> bool
-        ensures { Decides result (Never (guarded scale self.now.conditions.now self.now.weights.now) k span.lower span.upper) }
+        ensures { Decides result (Never (guarded M.scale self.now.conditions.now self.now.weights.now) k span.lower span.upper) }
     {
         match self.at(k) {
             None => true,

@@ -11,7 +11,7 @@ use sets::span::Span;
 
 // Whether t is not further than u from the end.
 fn is_toward<M: Measure>(end: End, t: M, u: M) -> bool
-    ensures { result ≡ toward end scale t u }
+    ensures { result ≡ toward end M.scale t u }
 {
     match end {
         End::Least => t.not_above(u),
@@ -21,14 +21,14 @@ fn is_toward<M: Measure>(end: End, t: M, u: M) -> bool
 
 // The one of two totals that lies nearer the end.
 fn nearer<M: Measure>(end: End, t: M, u: M) -> M
-    ensures { result ≡ nearest (toward end scale) t u }
+    ensures { result ≡ nearest (toward end M.scale) t u }
 {
     if is_toward(end, t, u) { t } else { u }
 }
 
 // A total after one decision of the domain, with that decision's weight.
 fn settle<M: Measure>(end: End, span: Span, d: Decision, t: M, w: M::Raw) -> M
-    ensures { result ≡ settled scale (toward end scale) span.lower span.upper d.place t w }
+    ensures { result ≡ settled M.scale (toward end M.scale) span.lower span.upper d.place t w }
 {
     if contains(span.lower(), d) {
         return t.with(w);
@@ -49,7 +49,7 @@ fn weight_at<R: Copy>(row: &[R], i: usize) -> R
 
 // The least or greatest total over the sets of the span, from a total to start with, for the decisions of a domain with one weight each.
 pub(crate) fn furthest<M: Measure>(end: End, span: Span, domain: Set, row: &[M::Raw], start: M) -> M
-    ensures { result ≡ extreme scale (toward end scale) span.lower span.upper (decisions domain) row.now start }
+    ensures { result ≡ extreme M.scale (toward end M.scale) span.lower span.upper (decisions domain) row.now start }
 {
     let mut t = start;
     let mut rest = domain;

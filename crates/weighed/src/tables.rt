@@ -26,7 +26,7 @@ fn placed(first: usize, domain: Set, total: usize) -> bool
 
 // Whether each figure of a row may be a weight.
 fn all_weights<M: Measure>(row: &[M::Raw]) -> bool
-    ensures { result ≡ all_ok scale row.now }
+    ensures { result ≡ all_ok M.scale row.now }
 {
     for w in row {
         if !M::is_weight(*w) {
@@ -38,13 +38,13 @@ fn all_weights<M: Measure>(row: &[M::Raw]) -> bool
 
 // Whether the measure allows two bounds and a row of weights.
 pub(crate) fn allows<M: Measure>(low: M::Raw, high: M::Raw, row: &[M::Raw]) -> bool
-    ensures { result ≡ (scale.fair low && (scale.fair high && all_ok scale row.now)) }
+    ensures { result ≡ (M.scale.fair low && (M.scale.fair high && all_ok M.scale row.now)) }
 {
     M::is_bound(low) && M::is_bound(high) && all_weights::<M>(row)
 }
 
 fn sound<M: Measure>(c: &WeighedCondition<M::Raw>, weights: &[M::Raw]) -> bool
-    ensures { Decides result (Sound scale weights.now c.now) }
+    ensures { Decides result (Sound M.scale weights.now c.now) }
 {
     let from = c.first;
     if !narrow(c.domain) || !placed(from, c.domain, weights.len()) {
@@ -56,7 +56,7 @@ fn sound<M: Measure>(c: &WeighedCondition<M::Raw>, weights: &[M::Raw]) -> bool
 
 // Whether the tables are valid, read whole.
 pub(crate) fn valid<M: Measure>(conditions: &[WeighedCondition<M::Raw>], weights: &[M::Raw]) -> bool
-    ensures { Decides result (Valid scale conditions.now weights.now) }
+    ensures { Decides result (Valid M.scale conditions.now weights.now) }
 {
     if conditions.len() > MAX_CONDITIONS {
         return false;

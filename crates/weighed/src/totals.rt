@@ -13,8 +13,8 @@ use sets::span::Span;
 
 // Whether the least total is not below the lower bound, and the greatest not above the upper one.
 fn enclosed<M: Measure>(span: Span, domain: Set, row: &[M::Raw], low: M, high: M) -> bool
-    ensures { result ≡ (scale.le low (extreme scale (toward End.Least scale) span.lower span.upper (decisions domain) row.now scale.nothing)
-        && scale.le (extreme scale (toward End.Greatest scale) span.lower span.upper (decisions domain) row.now scale.nothing) high) }
+    ensures { result ≡ (M.scale.le low (extreme M.scale (toward End.Least M.scale) span.lower span.upper (decisions domain) row.now M.scale.nothing)
+        && M.scale.le (extreme M.scale (toward End.Greatest M.scale) span.lower span.upper (decisions domain) row.now M.scale.nothing) high) }
 {
     low.not_above(furthest(End::Least, span, domain, row, M::none()))
         && furthest(End::Greatest, span, domain, row, M::none()).not_above(high)
@@ -23,18 +23,18 @@ fn enclosed<M: Measure>(span: Span, domain: Set, row: &[M::Raw], low: M, high: M
 // Whether every set of the span brings the total between the bounds: the least and the greatest total tell.
 pub(crate) fn hits<M: Measure>(span: Span, domain: Set, row: &[M::Raw], low: M, high: M) -> bool
     requires few { length row.now ≤ 12 }
-    requires allowed { Allowed scale row.now }
-    requires low { Compared scale low }
-    requires high { Compared scale high }
-    ensures { Decides result (Hits scale span.lower span.upper low high (decisions domain) row.now scale.nothing) }
+    requires allowed { Allowed M.scale row.now }
+    requires low { Compared M.scale low }
+    requires high { Compared M.scale high }
+    ensures { Decides result (Hits M.scale span.lower span.upper low high (decisions domain) row.now M.scale.nothing) }
 {
     enclosed(span, domain, row, low, high)
 }
 
 // Whether the least total is above the upper bound, or the greatest below the lower one.
 fn apart<M: Measure>(span: Span, domain: Set, row: &[M::Raw], t: M, low: M, high: M) -> bool
-    ensures { result ≡ (not (scale.le (extreme scale (toward End.Least scale) span.lower span.upper (decisions domain) row.now t) high)
-        || not (scale.le low (extreme scale (toward End.Greatest scale) span.lower span.upper (decisions domain) row.now t))) }
+    ensures { result ≡ (not (M.scale.le (extreme M.scale (toward End.Least M.scale) span.lower span.upper (decisions domain) row.now t) high)
+        || not (M.scale.le low (extreme M.scale (toward End.Greatest M.scale) span.lower span.upper (decisions domain) row.now t))) }
 {
     !furthest(End::Least, span, domain, row, t).not_above(high)
         || !low.not_above(furthest(End::Greatest, span, domain, row, t))
@@ -50,11 +50,11 @@ pub(crate) fn misses<M: Measure>(
     high: M,
 ) -> bool
     requires few { length row.now ≤ 12 }
-    requires allowed { Allowed scale row.now }
-    requires started { Total scale (12 - length row.now) t }
-    requires low { Compared scale low }
-    requires high { Compared scale high }
-    ensures { Decides result (Misses scale span.lower span.upper low high (decisions domain) row.now t) }
+    requires allowed { Allowed M.scale row.now }
+    requires started { Total M.scale (12 - length row.now) t }
+    requires low { Compared M.scale low }
+    requires high { Compared M.scale high }
+    ensures { Decides result (Misses M.scale span.lower span.upper low high (decisions domain) row.now t) }
 {
     if apart(span, domain, row, t, low, high) {
         return true;

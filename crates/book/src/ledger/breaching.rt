@@ -34,7 +34,7 @@ fn list_breaches<B: Bank>(
     set: Set,
     places: &mut [Breach],
 ) -> Listing<Breach>
-    ensures { (items : List Breach) × Breaches (meaning bank.now) set 0 (rules_of rules.now) items × Lists items places.old result places.new }
+    ensures { (items : List Breach) × Breaches (B.meaning bank.now) set 0 (rules_of rules.now) items × Lists items places.old result places.new }
 {
     let mut list = LentList::new(places);
     for i in 0..rules.len() {
@@ -58,7 +58,7 @@ fn list_breaches<B: Bank>(
 
 impl<B: Bank> Ledger<B> {
     pub(crate) fn breaches(&self, set: Set, places: &mut [Breach]) -> Listing<Breach>
-        ensures { (items : List Breach) × Breaches (meaning self.now.bank) set 0 (view self.now).rules items × Lists items places.old result places.new }
+        ensures { (items : List Breach) × Breaches (B.meaning self.now.bank) set 0 (view self.now).rules items × Lists items places.old result places.new }
     {
         list_breaches(&self.bank, self.rules.as_slice(), set, places)
     }

@@ -25,9 +25,9 @@ impl<B: Bank> Ledger<B> {
     fn enterable(&self, head: u8, body: &[u16]) -> Result<Rule, Refusal>
         ensures { MatchResult result
             (λ x. (length (held self.now.rules) < max_rules)
-            × Accepts (meaning self.now.bank) (view self.now) (enter head body.now) (length (view self.now).rules)
+            × Accepts (B.meaning self.now.bank) (view self.now) (enter head body.now) (length (view self.now).rules)
             (RulesWith (view self.now) (rule_of x)))
-            (Refuses (meaning self.now.bank) (view self.now) (enter head body.now)) }
+            (Refuses (B.meaning self.now.bank) (view self.now) (enter head body.now)) }
     {
         let rule = rule_named(&self.bank, head, body)?;
         if !self.has_free_rule() {
@@ -49,7 +49,7 @@ impl<B: Bank> Ledger<B> {
     }
 
     pub(crate) fn enter(&mut self, head: u8, body: &[u16]) -> Result<usize, Refusal>
-        ensures step { Step (meaning self.old.bank) (view self.old) (enter head body.now) (answer_of result) (view self.new) }
+        ensures step { Step (B.meaning self.old.bank) (view self.old) (enter head body.now) (answer_of result) (view self.new) }
         ensures same { self.new.bank ≡ self.old.bank }
     {
         let rule = self.enterable(head, body)?;

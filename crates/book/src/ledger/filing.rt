@@ -54,8 +54,8 @@ impl<B: Bank> Ledger<B> {
     // That the set keeps the rules, or the lowest one that it breaks.
     fn unbroken(&self, set: Set) -> Result<(), Refusal>
         ensures { MatchResult result
-            (λ _. All (Keeps (meaning self.now.bank) set) (view self.now).rules)
-            (λ e. (number e ≡ 23) × TellsLowest (meaning self.now.bank) (view self.now) set (told e)) }
+            (λ _. All (Keeps (B.meaning self.now.bank) set) (view self.now).rules)
+            (λ e. (number e ≡ 23) × TellsLowest (B.meaning self.now.bank) (view self.now) set (told e)) }
     {
         match lowest_broken(&self.bank, self.rules.as_slice(), set) {
             Some(rule) => Err(Refusal::Breaks(rule)),
@@ -66,8 +66,8 @@ impl<B: Bank> Ledger<B> {
     // That a page is free and the set keeps the rules, or why no page can be made of it.
     fn pageable(&self, set: Set) -> Result<(), Refusal>
         ensures { MatchResult result
-            (λ _. (length (held self.now.pages) < max_pages) × All (Keeps (meaning self.now.bank) set) (view self.now).rules)
-            (λ e. NotPagedFirst (meaning self.now.bank) (view self.now) set (number e) (told e)) }
+            (λ _. (length (held self.now.pages) < max_pages) × All (Keeps (B.meaning self.now.bank) set) (view self.now).rules)
+            (λ e. NotPagedFirst (B.meaning self.now.bank) (view self.now) set (number e) (told e)) }
     {
         if !self.has_free_page() {
             return Err(Refusal::PagesFull);
@@ -79,9 +79,9 @@ impl<B: Bank> Ledger<B> {
     fn fileable(&self, way: Way, set: Set) -> Result<[u8; 64], Refusal>
         ensures { MatchResult result
             (λ ranks. (length (held self.now.pages) < max_pages) × (length ranks ≡ 64)
-            × Accepts (meaning self.now.bank) (view self.now) (file (way_of way) set) (length (view self.now).pages)
+            × Accepts (B.meaning self.now.bank) (view self.now) (file (way_of way) set) (length (view self.now).pages)
             (PagesWith (view self.now) (way_of way) set ranks))
-            (Refuses (meaning self.now.bank) (view self.now) (file (way_of way) set)) }
+            (Refuses (B.meaning self.now.bank) (view self.now) (file (way_of way) set)) }
     {
         self.pageable(set)?;
         match rank_set(&self.bank, way, self.rules.as_slice(), set) {
@@ -94,9 +94,9 @@ impl<B: Bank> Ledger<B> {
     fn lodgeable(&self, way: Way, set: Set, ranks: &[u8]) -> Result<[u8; 64], Refusal>
         ensures { MatchResult result
             (λ kept. (length (held self.now.pages) < max_pages) × (length kept ≡ 64)
-            × Accepts (meaning self.now.bank) (view self.now) (lodge (way_of way) set ranks.now) (length (view self.now).pages)
+            × Accepts (B.meaning self.now.bank) (view self.now) (lodge (way_of way) set ranks.now) (length (view self.now).pages)
             (PagesWith (view self.now) (way_of way) set kept))
-            (Refuses (meaning self.now.bank) (view self.now) (lodge (way_of way) set ranks.now)) }
+            (Refuses (B.meaning self.now.bank) (view self.now) (lodge (way_of way) set ranks.now)) }
     {
         if !ranked(ranks, set) {
             return Err(Refusal::BadRanks);
@@ -122,7 +122,7 @@ impl<B: Bank> Ledger<B> {
     }
 
     pub(crate) fn file(&mut self, way: Way, set: Set) -> Result<usize, Refusal>
-        ensures step { Step (meaning self.old.bank) (view self.old) (file (way_of way) set) (answer_of result) (view self.new) }
+        ensures step { Step (B.meaning self.old.bank) (view self.old) (file (way_of way) set) (answer_of result) (view self.new) }
         ensures same { self.new.bank ≡ self.old.bank }
     {
         let ranks = self.fileable(way, set)?;
@@ -130,7 +130,7 @@ impl<B: Bank> Ledger<B> {
     }
 
     pub(crate) fn lodge(&mut self, way: Way, set: Set, ranks: &[u8]) -> Result<usize, Refusal>
-        ensures step { Step (meaning self.old.bank) (view self.old) (lodge (way_of way) set ranks.now) (answer_of result) (view self.new) }
+        ensures step { Step (B.meaning self.old.bank) (view self.old) (lodge (way_of way) set ranks.now) (answer_of result) (view self.new) }
         ensures same { self.new.bank ≡ self.old.bank }
     {
         let kept = self.lodgeable(way, set, ranks)?;

@@ -10,7 +10,7 @@ use rules::rule::Rule;
 impl<B: Bank> Ledger<B> {
     // How many conditions the bank has.
     pub fn count(&self) -> u16
-        ensures { result ≡ (meaning self.now.bank).count }
+        ensures { result ≡ (B.meaning self.now.bank).count }
     {
         self.bank.count()
     }

@@ -42,8 +42,8 @@ impl<B: Bank> Ledger<B> {
     fn withdrawable(&self) -> Result<usize, Refusal>
         ensures { MatchResult result
             (λ n. (n + 1 ≡ length (held self.now.rules)) × (last_of (counts (held self.now.pages)) < length (held self.now.rules))
-            × Accepts (meaning self.now.bank) (view self.now) withdraw n (RulesCut (view self.now) n))
-            (Refuses (meaning self.now.bank) (view self.now) withdraw) }
+            × Accepts (B.meaning self.now.bank) (view self.now) withdraw n (RulesCut (view self.now) n))
+            (Refuses (B.meaning self.now.bank) (view self.now) withdraw) }
     {
         let Some(last) = self.last_rule() else {
             return Err(Refusal::NoRule);
@@ -64,7 +64,7 @@ impl<B: Bank> Ledger<B> {
     }
 
     pub(crate) fn withdraw(&mut self) -> Result<usize, Refusal>
-        ensures step { Step (meaning self.old.bank) (view self.old) withdraw (answer_of result) (view self.new) }
+        ensures step { Step (B.meaning self.old.bank) (view self.old) withdraw (answer_of result) (view self.new) }
         ensures same { self.new.bank ≡ self.old.bank }
     {
         let last = self.withdrawable()?;

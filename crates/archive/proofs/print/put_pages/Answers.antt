@@ -20,12 +20,12 @@ loop-page-preserved c =
     let view = page_of (rules_of c.args.rules.now) in
     let front = map view (take i pages) in
     let more : map view (take (i + 1) pages) ≡ front ++ view page ∷ [] = map_more view pages i page c.loop-page-test.true ∙ ap (λ p. front ++ view p ∷ []) (sym c.page-item.is) in
-    let near = c.put-page-end.ensures.near in
+    let near = c.put_page-end.ensures.near in
     let was = c.loop-page.invariant.1 in (
-      puts_same c.args.memory.now c.args.at (lines_on k front ++ lines_on k (view page ∷ [])) _ c.put-page-end.new.memory c.put-page-end.result
+      puts_same c.args.memory.now c.args.at (lines_on k front ++ lines_on k (view page ∷ [])) _ c.put_page-end.new.memory c.put_page-end.result
           (sym (lines_on_append k front (view page ∷ [])) ∙ ap (lines_on k) (sym more))
-          (puts_then c.args.memory.now c.loop-page.memory c.put-page-end.new.memory c.args.at c.loop-page.end c.put-page-end.result (lines_on k front)
-          (lines_on k (view page ∷ [])) c.loop-page.invariant.0 c.put-page-end.ensures.puts),
+          (puts_then c.args.memory.now c.loop-page.memory c.put_page-end.new.memory c.args.at c.loop-page.end c.put_page-end.result (lines_on k front)
+          (lines_on k (view page ∷ [])) c.loop-page.invariant.0 c.put_page-end.ensures.puts),
       omega arith,
     )
 

@@ -14,7 +14,7 @@ loop-i-preserved c =
     let at = c.args.at in
     let bytes = c.args.bytes.now in
     let i = c.loop-i.i in
-    c.put-byte.ensures ∙ ap (over (at + 2 * i) (hex (get_or bytes i 0 ∷ []))) c.loop-i.invariant ∙ over_bytes_more c.args.memory.now bytes at i (omega arith) c.requires
+    c.put_byte.ensures ∙ ap (over (at + 2 * i) (hex (get_or bytes i 0 ∷ []))) c.loop-i.invariant ∙ over_bytes_more c.args.memory.now bytes at i (omega arith) c.requires
 
 pub returns : goal.returns
 returns c = c.loop-i.invariant ∙ ap (λ l. over c.args.at (hex l) c.args.memory.now) (take_all c.loop-i.i c.args.bytes.now (omega arith))

@@ -10,12 +10,12 @@ use Rattle.exported.proofs.building.rules_of.Goals as goal
 
 pub loop-n-preserved : goal.loop-n-preserved
 loop-n-preserved g c =
-    let ns = c.args.numbers.now in let i = c.loop-n.n-index in let x = c.in-ok-rule.rule in
+    let ns = c.args.numbers.now in let i = c.loop-n.n-index in let x = c.in_ok-rule.rule in
     let before = held c.loop-n.rules in
     ap shapes.rules_of (c.push.ensures.items ∙ cond-true c.push.result (before ++ x ∷ []) before c.if-not-push.false)
     ∙ map_push shapes.rule_of before x
     ∙ ap (λ (rs : List meant.Rule). rs ++ shapes.rule_of x ∷ []) c.loop-n.invariant
-    ∙ ap (λ (y : meant.Rule). rules_numbered (take i ns) ++ y ∷ []) c.in-ok-rule.ensures
+    ∙ ap (λ (y : meant.Rule). rules_numbered (take i ns) ++ y ∷ []) c.in_ok-rule.ensures
     ∙ sym (map_push rule_numbered (take i ns) _)
     ∙ ap rules_numbered (sym (take_more ns i _ c.loop-n-test.true))
 

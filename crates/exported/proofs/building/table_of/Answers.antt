@@ -9,11 +9,11 @@ use Rattle.exported.proofs.building.table_of.Goals as goal
 
 pub loop-c-preserved : goal.loop-c-preserved
 loop-c-preserved c =
-    let cs = c.args.conditions.now in let i = c.loop-c.c-index in let n = get_or cs i (record { domain = 0; first = 0; len = 0 }) in let x = c.line-of.result in
+    let cs = c.args.conditions.now in let i = c.loop-c.c-index in let n = get_or cs i (record { domain = 0; first = 0; len = 0 }) in let x = c.line_of.result in
     let before = held c.loop-c.lines in
     c.push.ensures.items ∙ cond-true c.push.result (before ++ x ∷ []) before c.if-not-push.false
     ∙ ap (λ (ls : List ListedCondition). ls ++ x ∷ []) c.loop-c.invariant
-    ∙ ap (λ (y : ListedCondition). table (take i cs) ++ y ∷ []) c.line-of.ensures
+    ∙ ap (λ (y : ListedCondition). table (take i cs) ++ y ∷ []) c.line_of.ensures
     ∙ sym (map_push line (take i cs) n)
     ∙ ap table (sym (take_more cs i (record { domain = 0; first = 0; len = 0 }) c.loop-c-test.true))
 

@@ -6,19 +6,19 @@ use Rattle.frames.specs.Bytes.{way_byte}
 use Rattle.rules.specs.Shapes.{way_of}
 use Rattle.frames.proofs.reading.frame_of.Goals as goal
 
-pub overflow-cast-set : goal.overflow-cast-set
-overflow-cast-set c = let h = ones-le 64 c.number-of-set.result c.number-of-set.type-inv in omega arith
+pub overflow_cast-set : goal.overflow_cast-set
+overflow_cast-set c = let h = ones-le 64 c.number_of-set.result c.number_of-set.type_inv in omega arith
 
 pub returns-in-1 : goal.returns-in-1
 returns-in-1 c =
     let s = c.args.bytes.now in
-    let e = c.from-be-bytes.ensures in
-    let t : get_or s 1 0 < 256 = omega (arith, c.type-inv.bytes 1) in
-    let u : get_or s 2 0 < 256 = omega (arith, c.type-inv.bytes 2) in
+    let e = c.from_be_bytes.ensures in
+    let t : get_or s 1 0 < 256 = omega (arith, c.type_inv.bytes 1) in
+    let u : get_or s 2 0 < 256 = omega (arith, c.type_inv.bytes 2) in
     let n : length s ≡ 3 = search rules in
     let k : get_or s 0 0 ≡ 1 = search rules in
-    let p : c.from-be-bytes.result / 256 ≡ get_or s 1 0 = omega arith in
-    let q : c.from-be-bytes.result % 256 ≡ get_or s 2 0 = omega arith in
+    let p : c.from_be_bytes.result / 256 ≡ get_or s 1 0 = omega arith in
+    let q : c.from_be_bytes.result % 256 ≡ get_or s 2 0 = omega arith in
     (tt, only_3 s n ∙ simp (k, p, q))
 
 pub returns-in-4 : goal.returns-in-4
@@ -33,8 +33,8 @@ returns-else-ranks-set c =
     let s = c.args.bytes.now in
     let n : 10 ≤ length s = search rules in
     let k : get_or s 0 0 ≡ 3 = search rules in
-    let way : way_byte (way_of c.in-ok-way.way) ≡ get_or s 1 0 = search rules in
-    (c.if-ranks-set.false, page_front s c.number-of-set.result (way_byte (way_of c.in-ok-way.way)) n k way c.number-of-set.ensures)
+    let way : way_byte (way_of c.in_ok-way.way) ≡ get_or s 1 0 = search rules in
+    (c.if-ranks-set.false, page_front s c.number_of-set.result (way_byte (way_of c.in_ok-way.way)) n k way c.number_of-set.ensures)
 
 pub returns-in-2 : goal.returns-in-2
 returns-in-2 c =

@@ -5,8 +5,8 @@ use Rattle.hexlines.specs.Hex.{Pair}
 use Rattle.hexlines.proofs.Lines.{pushed, front_none, front_more, front_within}
 use Rattle.hexlines.proofs.line.front.Goals as goal
 
-pub byte-at-requires : goal.byte-at-requires
-byte-at-requires c =
+pub byte_at-requires : goal.byte_at-requires
+byte_at-requires c =
     let inv = c.loop-n.invariant in
     let w = front_within c.args.text.now (held c.loop-n.line) inv.1 in
     let n = inv.0 in omega arith
@@ -14,11 +14,11 @@ byte-at-requires c =
 pub loop-n-init : goal.loop-n-init
 loop-n-init c = (ap length c.new-line.ensures, front_none c.args.text.now (held c.new-line.result) c.new-line.ensures)
 
-pub returns-in-default : goal.returns-in-default
-returns-in-default c =
+pub returns-in_default : goal.returns-in_default
+returns-in_default c =
     let inv = c.loop-n.invariant in
     let text = c.args.text.now in
-    record { front = inv.1; stops = λ less. subst (λ n. Pair (drop (2 * n) text) None) (sym inv.0) c.in-default.ensures }
+    record { front = inv.1; stops = λ less. subst (λ n. Pair (drop (2 * n) text) None) (sym inv.0) c.in_default.ensures }
 
 pub loop-n-preserved : goal.loop-n-preserved
 loop-n-preserved c =

@@ -3,7 +3,7 @@ use Rattle.rows.specs.Rows.{held}
 use Rattle.hexlines.specs.Hex.{Feed}
 use Rattle.hexlines.proofs.Lines.{front_line, front_no_line}
 use Rattle.hexlines.proofs.line.take_line.Goals as goal
-use Rattle.hexlines.proofs.line.take_line.Goals.{then-len-eq0-via-then-len-eq0, then-len-eq0-via-else-len-eq0+then-not-ends-at}
+use Rattle.hexlines.proofs.line.take_line.Goals.{then-len-eq0-via-then-len-eq0, then-len-eq0-via-else-len-eq0+then-not-ends_at}
 
 pub returns-then-len-eq0 : goal.returns-then-len-eq0
 returns-then-len-eq0 c =
@@ -13,7 +13,7 @@ returns-then-len-eq0 c =
       refl,
       front_no_line text (held c.front-line.result) told.front told.stops (elim c.then-len-eq0.branch [
         | then-len-eq0-via-then-len-eq0 w ↦ λ some. let none = w.if-len-eq0.true in absurd (omega arith)
-        | then-len-eq0-via-else-len-eq0+then-not-ends-at w ↦ λ some. subst (λ k. Feed text (2 * k) false) n w.if-not-ends-at.ensures
+        | then-len-eq0-via-else-len-eq0+then-not-ends-at w ↦ λ some. subst (λ k. Feed text (2 * k) false) n w.if-not-ends_at.ensures
       ]),
     )
 
@@ -24,4 +24,4 @@ returns c =
     let few = c.len-len.ensures.bound in
     let some = c.if-len-eq0.false in
     front_line text (held c.front-line.result) (omega arith) (omega arith) c.front-line.ensures.front
-    (subst (λ k. Feed text (2 * k) true) n c.if-not-ends-at.ensures)
+    (subst (λ k. Feed text (2 * k) true) n c.if-not-ends_at.ensures)

@@ -4,4 +4,4 @@ use Rattle.house.proofs.Constants.{parts_mean}
 use Rattle.house.proofs.bank.house_bank.Goals as goal
 
 pub returns : goal.returns
-returns c = ap₂ beside c.listed-bank.ensures (ap₂ beside c.kilo-bank.ensures c.grade-bank.ensures) ∙ parts_mean
+returns c = ap₂ beside c.listed_bank.ensures (ap₂ beside c.kilo_bank.ensures c.grade_bank.ensures) ∙ parts_mean

@@ -6,7 +6,7 @@ use Rattle.sets.specs.Sets.{has, collect}
 use Rattle.answer_sets.specs.Rules.{rank}
 use Rattle.sets.proofs.Collecting.{collect_in, collect_out}
 use Rattle.judge.proofs.bearing.lower_of.Goals as goal
-use Rattle.judge.proofs.bearing.lower_of.Goals.{then-contains-place+then-is-lower, else-contains-place, else-contains-place-via-then-contains-place+else-is-lower, else-contains-place-via-else-contains-place}
+use Rattle.judge.proofs.bearing.lower_of.Goals.{then-contains_place+then-is_lower, else-contains_place, else-contains_place-via-then-contains_place+else-is_lower, else-contains_place-via-else-contains_place}
 
 pub loop-d-init : goal.loop-d-init
 unfolding collect
@@ -20,15 +20,15 @@ loop-d-preserved c =
     let lo : Bool = ltb (rank xs d) (rank xs c.args.b) in
     let p : ℕ → Bool = λ d. has s d && ltb (rank xs d) (rank xs c.args.b) in
     let l : d < 64 = omega arith in
-    elim c.if-contains-place.branch [
+    elim c.if-contains_place.branch [
       | then-contains-place+then-is-lower w ↦
           w.out-is ∙ ap₂ bit_or c.loop-d.invariant (one_shl d 64 l)
-          ∙ collect_in d p (and_from (has s d) lo (sym c.contains-place.ensures ∙ w.if-contains-place.true) (sym w.is-lower.ensures ∙ w.if-is-lower.true))
+          ∙ collect_in d p (and_from (has s d) lo (sym c.contains_place.ensures ∙ w.if-contains_place.true) (sym w.is_lower.ensures ∙ w.if-is_lower.true))
           ∙ ap (λ (n : ℕ). collect n p) (sym (add-one d))
       | else-contains-place w ↦
-          let q : p d ≡ false = elim w.else-contains-place.branch [
-            | else-contains-place-via-then-contains-place+else-is-lower v ↦ and_right (has s d) lo (sym v.is-lower.ensures ∙ v.if-is-lower.false)
-            | else-contains-place-via-else-contains-place v ↦ and_left (has s d) lo (sym c.contains-place.ensures ∙ v.if-contains-place.false)
+          let q : p d ≡ false = elim w.else-contains_place.branch [
+            | else-contains-place-via-then-contains-place+else-is-lower v ↦ and_right (has s d) lo (sym v.is_lower.ensures ∙ v.if-is_lower.false)
+            | else-contains-place-via-else-contains-place v ↦ and_left (has s d) lo (sym c.contains_place.ensures ∙ v.if-contains_place.false)
           ] in
           w.out-is ∙ c.loop-d.invariant ∙ collect_out d p q ∙ ap (λ (n : ℕ). collect n p) (sym (add-one d))
     ]

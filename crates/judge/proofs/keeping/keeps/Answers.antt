@@ -11,6 +11,6 @@ use Rattle.judge.proofs.keeping.keeps.Goals as goal
 pub returns : goal.returns
 returns g c =
     let m = g.B.Bank.meaning c.args.bank.now in let r = c.args.rule.now in let M = c.args.set in
-    keeps_not m M (rule_of r) c.body-fails.result
-    (λ h. both_ways c.head-in.result c.if-head-in.false (c.head-in.ensures.1 (subst (λ (x : Head). HeadIn (head_of x) M) (sym c.head.ensures) h)))
-    (subst (λ (xs : List Entry). Decides c.body-fails.result (All (λ e. holds m e M ≡ true) (map entry_of xs) → ⊥)) c.body.ensures c.body-fails.ensures)
+    keeps_not m M (rule_of r) c.body_fails.result
+    (λ h. both_ways c.head_in.result c.if-head_in.false (c.head_in.ensures.1 (subst (λ (x : Head). HeadIn (head_of x) M) (sym c.head.ensures) h)))
+    (subst (λ (xs : List Entry). Decides c.body_fails.result (All (λ e. holds m e M ≡ true) (map entry_of xs) → ⊥)) c.body.ensures c.body_fails.ensures)

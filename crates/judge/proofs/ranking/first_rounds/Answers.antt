@@ -40,5 +40,5 @@ loop-i-preserved g c =
       omega arith,
       next,
       λ d l. stamped_more (derives m w rs M) i d _ _ (c.loop-i.invariant.2 d l)
-          (c.stamp.ensures d l ∙ ap₂ (λ (s n : ℕ). cond (eqb (get_or c.loop-i.ranks d 0) 0 && has s d) n (get_or c.loop-i.ranks d 0)) next c.round-number.ensures),
+          (c.stamp.ensures d l ∙ ap₂ (λ (s n : ℕ). cond (eqb (get_or c.loop-i.ranks d 0) 0 && has s d) n (get_or c.loop-i.ranks d 0)) next c.round_number.ensures),
     )

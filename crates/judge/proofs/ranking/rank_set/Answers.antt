@@ -25,7 +25,7 @@ pub returns : goal.returns
 returns g c =
     let m = g.B.Bank.meaning c.args.bank.now in let w = way_of c.args.way in let rs = rules_of c.args.rules.now in let M = c.args.set in
     record {
-      rounds = c.find-ranks.ensures;
-      published = published m w rs M c.ranges.set.fits c.find-ranks.result c.find-ranks.ensures;
-      minimal = minimal m w rs M c.ranges.set.fits c.find-ranks.result c.find-ranks.ensures;
+      rounds = c.find_ranks.ensures;
+      published = published m w rs M c.ranges.set.fits c.find_ranks.result c.find_ranks.ensures;
+      minimal = minimal m w rs M c.ranges.set.fits c.find_ranks.result c.find_ranks.ensures;
     }

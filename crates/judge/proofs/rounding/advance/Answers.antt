@@ -22,12 +22,12 @@ none : (h : Head) → ((x : Decision) → h ≡ Takes x → ⊥) → (d : ℕ) �
 none (Takes x) n d e = n x refl
 none Absent n d e = subst Headless e tt
 
-pub rules-preserved-in-default : goal.rules-preserved-in-default
-rules-preserved-in-default g c =
+pub rules-preserved-in_default : goal.rules-preserved-in_default
+rules-preserved-in_default g c =
     let m = g.B.Bank.meaning c.args.bank.now in let s = c.args.span in let o = c.rules.out in let w = way_of c.args.way in
     given_more rule_of c.args.rules.now c.rules.rule-index c.rule-item.result c.rules-test.true c.rule-item.is
     m w s.lower s.upper o o (λ y. y)
-    (grown_none m w s.lower s.upper (rule_of c.rule-item.result) o (λ d e. none c.head.result c.in-default.not-Takes d (ap head_of c.head.ensures ∙ e)))
+    (grown_none m w s.lower s.upper (rule_of c.rule-item.result) o (λ d e. none c.head.result c.in_default.not-Takes d (ap head_of c.head.ensures ∙ e)))
     c.rules.invariant
 
 pub rules-preserved-then-contains : goal.rules-preserved-then-contains

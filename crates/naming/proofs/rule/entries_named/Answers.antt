@@ -9,12 +9,12 @@ use Rattle.naming.proofs.rule.entries_named.Goals as goal
 
 pub loop-i-preserved : goal.loop-i-preserved
 loop-i-preserved c =
-    let xs = c.loop-i.places in let body = c.args.body.now in let i = c.loop-i.i in let x = c.entry-named.result in
+    let xs = c.loop-i.places in let body = c.args.body.now in let i = c.loop-i.i in let x = c.entry_named.result in
     let n = get_or body i 0 in (
       length-set xs i x ∙ c.loop-i.invariant.0,
       ap (map entry_of) (take_more_set xs i x (omega arith)) ∙ map_push entry_of (take i xs) x
           ∙ ap (λ (ys : List meant.Entry). ys ++ entry_of x ∷ []) c.loop-i.invariant.1
-          ∙ ap (λ (y : meant.Entry). map entry_named (take i body) ++ y ∷ []) c.entry-named.ensures
+          ∙ ap (λ (y : meant.Entry). map entry_named (take i body) ++ y ∷ []) c.entry_named.ensures
           ∙ sym (map_push entry_named (take i body) n)
           ∙ ap (map entry_named) (sym (take_more body i 0 (omega arith))),
     )

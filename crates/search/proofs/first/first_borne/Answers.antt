@@ -10,8 +10,8 @@ use Rattle.search.proofs.first.first_borne.Goals as goal
 pub sets-init : goal.sets-init
 sets-init g c = ([], refl, refl, tt)
 
-pub one-more-tried-requires : goal.one-more-tried-requires
-one-more-tried-requires g c =
+pub one_more-tried-requires : goal.one_more-tried-requires
+one_more-tried-requires g c =
     let m = g.B.Bank.meaning c.args.bank.now in
     let P : ℕ → Type 0 = λ n. Borne m (way_of c.args.way) (rules_of c.args.rules.now) n → ⊥ in
     omega (arith, passed_fewer P (to_come_step c.next-ahead.result c.in-Some.is c.next-ahead.ensures) c.sets.invariant)
@@ -23,31 +23,31 @@ sets-preserved-then-not-keeps g c =
     let s = c.set-set.result in let x = c.rule-item.result in
     let broken = fails rule_of (Keeps m s) c.args.rules.now c.loop-rule.rule-index x x c.keeps.result
     c.loop-rule-test.true c.rule-item.is c.keeps.ensures c.if-not-keeps.true in
-    passed_more P (to_come_step c.next-ahead.result c.in-Some.is c.next-ahead.ensures) c.one-more-tried.ensures
+    passed_more P (to_come_step c.next-ahead.result c.in-Some.is c.next-ahead.ensures) c.one_more-tried.ensures
     (subst P c.set-set.ensures (λ b. not_from_Decides false broken refl b.1.kept)) c.sets.invariant
 
 pub sets-preserved : goal.sets-preserved
 sets-preserved g c =
     let m = g.B.Bank.meaning c.args.bank.now in
     let P : ℕ → Type 0 = λ n. Borne m (way_of c.args.way) (rules_of c.args.rules.now) n → ⊥ in
-    passed_more P (to_come_step c.next-ahead.result c.in-Some.is c.next-ahead.ensures) c.one-more-tried.ensures
-    (subst P c.set-set.ensures (not_from_Decides c.is-borne.result c.is-borne.ensures c.if-is-borne.false)) c.sets.invariant
+    passed_more P (to_come_step c.next-ahead.result c.in-Some.is c.next-ahead.ensures) c.one_more-tried.ensures
+    (subst P c.set-set.ensures (not_from_Decides c.is_borne.result c.is_borne.ensures c.if-is_borne.false)) c.sets.invariant
 
-pub returns-in-default : goal.returns-in-default
-returns-in-default g c =
+pub returns-in_default : goal.returns-in_default
+returns-in_default g c =
     let m = g.B.Bank.meaning c.args.bank.now in
     let P : ℕ → Type 0 = λ n. Borne m (way_of c.args.way) (rules_of c.args.rules.now) n → ⊥ in
-    let k = passed_all P (ap to_come c.in-default.is) c.sets.invariant in
+    let k = passed_all P (ap to_come c.in_default.is) c.sets.invariant in
     record { count = k.0; none = k.1 }
 
-pub returns-then-is-borne : goal.returns-then-is-borne
-returns-then-is-borne g c =
+pub returns-then-is_borne : goal.returns-then-is_borne
+returns-then-is_borne g c =
     let i = c.sets.invariant in
     record {
       before = i.0;
       split = i.1 ∙ ap (λ (l : List ℕ). i.0 ++ l)
           (to_come_step c.next-ahead.result c.in-Some.is c.next-ahead.ensures ∙ ap (λ (s : ℕ). s ∷ to_come c.next-ahead.result) (sym c.set-set.ensures));
-      count = c.one-more-tried.ensures ∙ ap (λ (n : ℕ). n + 1) i.2;
-      borne = c.is-borne.ensures.0 c.if-is-borne.true;
+      count = c.one_more-tried.ensures ∙ ap (λ (n : ℕ). n + 1) i.2;
+      borne = c.is_borne.ensures.0 c.if-is_borne.true;
       none_before = i.3;
     }

@@ -19,8 +19,8 @@ loop-rule-preserved c d =
     let P : meant.Rule → Type 0 = λ r. r.head ≡ decision d in
     let same : head_of c.head.result ≡ head_of x.head = ap head_of c.head.ensures in (
       (λ h. more_any rule_of xs i x c.loop-rule-test.true c.rule-item.is P
-          (⊎_elim (λ o. inl ((c.loop-rule.invariant d).0 o)) (λ e. inr (sym same ∙ e)) ((c.with-head-heads.ensures d).0 h))),
-      (λ a. (c.with-head-heads.ensures d).1
+          (⊎_elim (λ o. inl ((c.loop-rule.invariant d).0 o)) (λ e. inr (sym same ∙ e)) ((c.with_head-heads.ensures d).0 h))),
+      (λ a. (c.with_head-heads.ensures d).1
           (⊎_elim (λ o. inl ((c.loop-rule.invariant d).1 o)) (λ e. inr (same ∙ e)) (any_more rule_of xs i x c.loop-rule-test.true c.rule-item.is P a))),
     )
 

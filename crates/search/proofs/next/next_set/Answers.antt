@@ -3,21 +3,21 @@ use Rattle.std.specs.List.{AllByRecursion as All}
 use Rattle.std.proofs.lemmas.Option.{MatchOption-at_some, MatchOption-at_none}
 use Rattle.answer_sets.specs.Rules.{Borne}
 use Rattle.rules.specs.Shapes.{way_of, rules_of}
-use Rattle.search.specs.Ahead.{to_come, First-borne, None-borne}
+use Rattle.search.specs.Ahead.{to_come, FirstBorne, NoneBorne}
 use Rattle.search.proofs.Candidates.{few_candidates, lowest_answer, no_answer}
 use Rattle.search.proofs.next.next_set.Goals as goal
 
-pub first-borne-stop-requires : goal.first-borne-stop-requires
-first-borne-stop-requires g c =
-    let d = c.in-ok-from.ensures in
+pub first_borne-stop-requires : goal.first_borne-stop-requires
+first_borne-stop-requires g c =
+    let d = c.in_ok-from.ensures in
     subst (λ (l : List ℕ). length l ≤ 65536) (sym d.coming) (few_candidates d.heads d.fits c.args.start d.few)
 
 pub returns-in-Some : goal.returns-in-Some
 returns-in-Some g c =
     let m = g.B.Bank.meaning c.args.bank.now in let w = way_of c.args.way in let rs = rules_of c.args.rules.now in
-    let d = c.in-ok-from.ensures in let s = c.in-Some.set in let stop = c.first-borne-stop.result in
-    let coming = to_come c.in-ok-from.from in
-    let k = MatchOption-at_some (None-borne m w rs coming stop.tried) (First-borne m w rs coming (to_come stop.ahead) stop.tried) s c.in-Some.is c.first-borne-stop.ensures in
+    let d = c.in_ok-from.ensures in let s = c.in-Some.set in let stop = c.first_borne-stop.result in
+    let coming = to_come c.in_ok-from.from in
+    let k = MatchOption-at_some (NoneBorne m w rs coming stop.tried) (FirstBorne m w rs coming (to_come stop.ahead) stop.tried) s c.in-Some.is c.first_borne-stop.ensures in
     let split = sym d.coming ∙ k.split in
     record {
       found = record {
@@ -37,9 +37,9 @@ returns-in-Some g c =
 pub returns-in-None : goal.returns-in-None
 returns-in-None g c =
     let m = g.B.Bank.meaning c.args.bank.now in let w = way_of c.args.way in let rs = rules_of c.args.rules.now in
-    let d = c.in-ok-from.ensures in let stop = c.first-borne-stop.result in
-    let coming = to_come c.in-ok-from.from in
-    let k = MatchOption-at_none (None-borne m w rs coming stop.tried) (First-borne m w rs coming (to_come stop.ahead) stop.tried) c.in-None.is c.first-borne-stop.ensures in
+    let d = c.in_ok-from.ensures in let stop = c.first_borne-stop.result in
+    let coming = to_come c.in_ok-from.from in
+    let k = MatchOption-at_none (NoneBorne m w rs coming stop.tried) (FirstBorne m w rs coming (to_come stop.ahead) stop.tried) c.in-None.is c.first_borne-stop.ensures in
     let none = subst (All (λ n. Borne m w rs n → ⊥)) d.coming k.none in
     record {
       found = inr (

@@ -13,4 +13,4 @@ by_count (Some d) s t h e c =
     (λ p. subst (λ (x : ℕ). Lowest x s) (sym (c ∙ e)) p.1) (lowest_trailing 64 s h)
 
 pub returns : goal.returns
-returns c = by_count c.new.result c.args.set c.zeros-below.result (omega arith) c.zeros-below.ensures c.new.ensures
+returns c = by_count c.new.result c.args.set c.zeros_below.result (omega arith) c.zeros_below.ensures c.new.ensures

@@ -9,11 +9,11 @@ use Rattle.weighed.proofs.extremes.furthest.Goals as goal
 pub loop-i-init : goal.loop-i-init
 loop-i-init g c = refl
 
-pub returns-in-default : goal.returns-in-default
-returns-in-default g c =
+pub returns-in_default : goal.returns-in_default
+returns-in_default g c =
     let s = g.M.Measure.scale in
     sym (extreme_none s (toward c.args.end s) c.args.span.lower c.args.span.upper (decisions c.loop-i.rest) (drop c.loop-i.i c.args.row.now) c.loop-i.t
-    (decisions_none c.loop-i.rest c.in-default.ensures))
+    (decisions_none c.loop-i.rest c.in_default.ensures))
     ∙ c.loop-i.invariant
 
 pub loop-i-preserved : goal.loop-i-preserved
@@ -21,9 +21,9 @@ loop-i-preserved g c =
     let s = g.M.Measure.scale in
     let d : ℕ = c.in-Some.d.place in
     extreme_more s (toward c.args.end s) c.args.span.lower c.args.span.upper
-    (decisions c.loop-i.rest) (decisions c.without-rest.result) (drop c.loop-i.i c.args.row.now) _ d c.weight-at.result c.loop-i.t c.settle-t.result
+    (decisions c.loop-i.rest) (decisions c.without-rest.result) (drop c.loop-i.i c.args.row.now) _ d c.weight_at.result c.loop-i.t c.settle-t.result
     (lowest_first c.loop-i.rest d c.in-Some.d.small c.in-Some.ensures ∙ ap (λ (x : ℕ). d ∷ decisions x) (sym c.without-rest.ensures))
-    (row_from c.args.row.now c.loop-i.i c.weight-at.result (omega arith) c.weight-at.ensures)
+    (row_from c.args.row.now c.loop-i.i c.weight_at.result (omega arith) c.weight_at.ensures)
     c.settle-t.ensures
     ∙ c.loop-i.invariant
 

@@ -22,10 +22,10 @@ returns-then-apart g t c =
       (λ _. refl),
     )
 
-pub returns-in-default : goal.returns-in-default
-returns-in-default g t c =
+pub returns-in_default : goal.returns-in_default
+returns-in_default g t c =
     let s = g.M.Measure.scale in let a = c.args in
-    let e : decisions a.domain ≡ [] = decisions_none a.domain c.in-default.ensures in
+    let e : decisions a.domain ≡ [] = decisions_none a.domain c.in_default.ensures in
     misses_end s a.span.lower a.span.upper a.span.nested a.low a.high (decisions a.domain) a.row.now a.t c.apart.result
     (λ f. ap (λ (ds : List ℕ). chosen ds a.row.now f) e)
     (λ x. extreme_none s (toward x s) a.span.lower a.span.upper (decisions a.domain) a.row.now a.t e)

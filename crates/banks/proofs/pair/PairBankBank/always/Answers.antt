@@ -3,8 +3,8 @@ use Rattle.banks.specs.Beside.{beside, beside_lawful}
 use Rattle.banks.proofs.PastCount.{past_always}
 use Rattle.banks.proofs.pair.PairBankBank.always.Goals as goal
 
-pub returns-then-k-ge-MAX-COUNT : goal.returns-then-k-ge-MAX-COUNT
-returns-then-k-ge-MAX-COUNT g c =
+pub returns-then-k-ge-MAX_COUNT : goal.returns-then-k-ge-MAX_COUNT
+returns-then-k-ge-MAX_COUNT g c =
     let a = g.A.Bank.meaning c.args.self.now.first in
     let b = g.B.Bank.meaning c.args.self.now.second in
     past_always (beside a b) (beside_lawful a b (g.A.Bank.lawful c.args.self.now.first) (g.B.Bank.lawful c.args.self.now.second))

@@ -20,23 +20,23 @@ same_page : (page : Page) (w : Way) (M : ℕ) (ranks : List ℕ) (rules : List m
     → take page.rules rules ≡ rules → page_of rules page ≡ paged (way_of w) M ranks rules
 same_page page w M ranks rules e f g h i = paged (way_of (e i)) (f i) (g i) (h i)
 
-pub invariant-of-self : goal.invariant-of-self
-invariant-of-self g c =
+pub invariant_of-self : goal.invariant_of-self
+invariant_of-self g c =
     let ps = held c.args.self.now.pages in
     let rs = held c.args.self.now.rules in
-    let page = c.page-on-page.result in
+    let page = c.page_on-page.result in
     let yes : c.push.result ≡ true = c.push.ensures.room ∙ lt-ltb (length ps) 64 c.requires.0 in
     let more : held c.push.new.self ≡ ps ++ page ∷ [] = c.push.ensures.items ∙ cond-true c.push.result (ps ++ page ∷ []) ps yes in
     let on : counts (held c.push.new.self) ≡ counts ps ++ length rs ∷ [] =
-    ap counts more ∙ map_push (λ (p : Page). p.rules) ps page ∙ ap (λ (k : ℕ). counts ps ++ k ∷ []) (c.page-on-page.ensures.3 ∙ c.len.ensures.value) in
-    (subst (λ (ns : List ℕ). Level ns (length rs)) (sym on) (level_push (counts ps) (length rs) c.args.self.now.level), tt)
+    ap counts more ∙ map_push (λ (p : Page). p.rules) ps page ∙ ap (λ (k : ℕ). counts ps ++ k ∷ []) (c.page_on-page.ensures.3 ∙ c.len.ensures.value) in
+    record { level = subst (λ (ns : List ℕ). Level ns (length rs)) (sym on) (level_push (counts ps) (length rs) c.args.self.now.level) }
 
 pub returns : goal.returns
 returns g c =
     let ps = held c.args.self.now.pages in
     let ls = rules_of (held c.args.self.now.rules) in
-    let page = c.page-on-page.result in
-    let m = c.page-on-page.ensures in
+    let page = c.page_on-page.result in
+    let m = c.page_on-page.ensures in
     let yes : c.push.result ≡ true = c.push.ensures.room ∙ lt-ltb (length ps) 64 c.requires.0 in
     let more : held c.push.new.self ≡ ps ++ page ∷ [] = c.push.ensures.items ∙ cond-true c.push.result (ps ++ page ∷ []) ps yes in
     let rules-same = length-map (held c.args.self.now.rules) rule_of in

@@ -8,10 +8,10 @@ use Rattle.book.specs.View.{page_of}
 use Rattle.book.proofs.Pages.{grows, level_up, pages_push}
 use Rattle.book.proofs.ledger.Ledger.add_rule.Goals as goal
 
-pub invariant-of-self : goal.invariant-of-self
-invariant-of-self g c =
+pub invariant_of-self : goal.invariant_of-self
+invariant_of-self g c =
     let longer : length (held c.args.self.now.rules) ≤ length (held c.push.new.self) = grows _ _ _ _ c.push.ensures.items in
-    (level_up _ _ _ longer c.args.self.now.level, tt)
+    record { level = level_up _ _ _ longer c.args.self.now.level }
 
 pub returns : goal.returns
 returns g c =

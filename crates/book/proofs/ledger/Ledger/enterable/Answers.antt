@@ -13,29 +13,29 @@ use Rattle.book.proofs.Passing.{passed_on}
 use Rattle.book.proofs.Steps.{refuses, enter_full, enter_ready}
 use Rattle.book.proofs.ledger.Ledger.enterable.Goals as goal
 
-pub returns-in-err-rule : goal.returns-in-err-rule
-returns-in-err-rule g c =
+pub returns-in_err-rule : goal.returns-in_err-rule
+returns-in_err-rule g c =
     let p = err_from_is_err_and c.from-residual.result c.from-residual.ensures.1 in
     let m = g.B.Bank.meaning c.args.self.now.bank in
     let a = view c.args.self.now in
-    passed_on _ (Refuses m a (enter c.args.head c.args.body.now)) c.from-residual.result p.0 c.in-err-rule.field-0.0 p.1 p.2
-    (refuses m a (enter c.args.head c.args.body.now) c.in-err-rule.field-0.0 (c.in-err-rule.ensures a))
+    passed_on _ (Refuses m a (enter c.args.head c.args.body.now)) c.from-residual.result p.0 c.in_err-rule.field-0.0 p.1 p.2
+    (refuses m a (enter c.args.head c.args.body.now) c.in_err-rule.field-0.0 (c.in_err-rule.ensures a))
 
-pub returns-then-not-has-free-rule : goal.returns-then-not-has-free-rule
-returns-then-not-has-free-rule g c =
+pub returns-then-not-has_free_rule : goal.returns-then-not-has_free_rule
+returns-then-not-has_free_rule g c =
     let m = g.B.Bank.meaning c.args.self.now.bank in
     let a = view c.args.self.now in
-    let full = not_from_Decides c.has-free-rule.result c.has-free-rule.ensures c.if-not-has-free-rule.true in
+    let full = not_from_Decides c.has_free_rule.result c.has_free_rule.ensures c.if-not-has_free_rule.true in
     let same = length-map (held c.args.self.now.rules) rule_of in
-    refuses m a (enter c.args.head c.args.body.now) RulesFull (enter_full m a c.args.head c.args.body.now c.in-ok-rule.ensures.0 (omega arith))
+    refuses m a (enter c.args.head c.args.body.now) RulesFull (enter_full m a c.args.head c.args.body.now c.in_ok-rule.ensures.0 (omega arith))
 
 pub returns : goal.returns
 returns g c =
     let m = g.B.Bank.meaning c.args.self.now.bank in
     let a = view c.args.self.now in
-    let room : length (held c.args.self.now.rules) < 128 = c.has-free-rule.ensures.0 c.if-not-has-free-rule.false in
+    let room : length (held c.args.self.now.rules) < 128 = c.has_free_rule.ensures.0 c.if-not-has_free_rule.false in
     let same = length-map (held c.args.self.now.rules) rule_of in
-    let named = c.in-ok-rule.ensures in (
+    let named = c.in_ok-rule.ensures in (
       room,
       subst (λ (x : meant.Rule). Accepts m a (enter c.args.head c.args.body.now) (length a.rules) (RulesWith a x)) (sym named.1)
           (enter_ready m a c.args.head c.args.body.now named.0 (omega arith)),

@@ -6,11 +6,11 @@ use Rattle.book.specs.View.{view}
 use Rattle.book.proofs.Passing.{refused_on}
 use Rattle.book.proofs.ledger.Ledger.file.Goals as goal
 
-pub returns-in-err-ranks : goal.returns-in-err-ranks
-returns-in-err-ranks g c =
+pub returns-in_err-ranks : goal.returns-in_err-ranks
+returns-in_err-ranks g c =
     let p = err_from_is_err_and c.from-residual.result c.from-residual.ensures.1 in
     record {
       step = refused_on (g.B.Bank.meaning c.args.self.now.bank) (view c.args.self.now) (file (way_of c.args.way) c.args.set)
-          c.from-residual.result p.0 c.in-err-ranks.field-0.0 p.1 p.2 c.in-err-ranks.ensures;
+          c.from-residual.result p.0 c.in_err-ranks.field-0.0 p.1 p.2 c.in_err-ranks.ensures;
       same = refl;
     }

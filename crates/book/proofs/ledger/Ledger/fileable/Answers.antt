@@ -15,24 +15,24 @@ use Rattle.book.proofs.Passing.{passed_on}
 use Rattle.book.proofs.Steps.{refuses, file_not_paged, file_unborne, file_ready}
 use Rattle.book.proofs.ledger.Ledger.fileable.Goals as goal
 
-pub returns-in-err-pageable : goal.returns-in-err-pageable
-returns-in-err-pageable g c =
+pub returns-in_err-pageable : goal.returns-in_err-pageable
+returns-in_err-pageable g c =
     let m = g.B.Bank.meaning c.args.self.now.bank in
     let a = view c.args.self.now in
     let w = way_of c.args.way in
-    let e = c.in-err-pageable.field-0.0 in
+    let e = c.in_err-pageable.field-0.0 in
     let p = err_from_is_err_and c.from-residual.result c.from-residual.ensures.1 in
     passed_on _ (Refuses m a (file w c.args.set)) c.from-residual.result p.0 e p.1 p.2
-    (refuses m a (file w c.args.set) e (file_not_paged m a c.args.set w (number e) (told e) c.in-err-pageable.ensures))
+    (refuses m a (file w c.args.set) e (file_not_paged m a c.args.set w (number e) (told e) c.in_err-pageable.ensures))
 
 pub returns-in-Some : goal.returns-in-Some
 returns-in-Some g c =
     let m = g.B.Bank.meaning c.args.self.now.bank in
     let a = view c.args.self.now in
     let w = way_of c.args.way in
-    let free = c.in-ok-pageable.ensures.0 in
+    let free = c.in_ok-pageable.ensures.0 in
     let same = length-map (held c.args.self.now.pages) (page_of a.rules) in
-    let rounds = subst (λ (rules : List Rule). Rounds m w (rules_of rules) c.args.set c.in-Some.ranks) c.as-slice.ensures c.in-Some.ensures.rounds in (
+    let rounds = subst (λ (rules : List Rule). Rounds m w (rules_of rules) c.args.set c.in-Some.ranks) c.as_slice.ensures c.in-Some.ensures.rounds in (
       free,
       rounds.bear.ranked.places,
       file_ready m a c.args.set w (omega arith) c.in-Some.ranks rounds,
@@ -43,7 +43,7 @@ returns-in-None g c =
     let m = g.B.Bank.meaning c.args.self.now.bank in
     let a = view c.args.self.now in
     let w = way_of c.args.way in
-    let free = c.in-ok-pageable.ensures.0 in
+    let free = c.in_ok-pageable.ensures.0 in
     let same = length-map (held c.args.self.now.pages) (page_of a.rules) in
-    let fails = subst (λ (rules : List Rule). Borne m w (rules_of rules) c.args.set → ⊥) c.as-slice.ensures c.in-None.ensures.rounds in
-    refuses m a (file w c.args.set) Unborne (file_unborne m a c.args.set w (omega arith) c.in-ok-pageable.ensures.1 fails)
+    let fails = subst (λ (rules : List Rule). Borne m w (rules_of rules) c.args.set → ⊥) c.as_slice.ensures c.in-None.ensures.rounds in
+    refuses m a (file w c.args.set) Unborne (file_unborne m a c.args.set w (omega arith) c.in_ok-pageable.ensures.1 fails)

@@ -23,17 +23,17 @@ returns-then-not-ranked g c =
     let fails = not_from_Decides c.ranked.result c.ranked.ensures c.if-not-ranked.true in
     refuses m a (lodge w c.args.set c.args.ranks.now) BadRanks (lodge_unranked m a c.args.set w c.args.ranks.now fails)
 
-pub returns-in-err-pageable : goal.returns-in-err-pageable
-returns-in-err-pageable g c =
+pub returns-in_err-pageable : goal.returns-in_err-pageable
+returns-in_err-pageable g c =
     let m = g.B.Bank.meaning c.args.self.now.bank in
     let a = view c.args.self.now in
     let w = way_of c.args.way in
-    let e = c.in-err-pageable.field-0.0 in
+    let e = c.in_err-pageable.field-0.0 in
     let p = err_from_is_err_and c.from-residual.result c.from-residual.ensures.1 in
     let ranked = c.ranked.ensures.0 c.if-not-ranked.false in
     passed_on _ (Refuses m a (lodge w c.args.set c.args.ranks.now)) c.from-residual.result p.0 e p.1 p.2
     (refuses m a (lodge w c.args.set c.args.ranks.now) e
-    (lodge_not_paged m a c.args.set w c.args.ranks.now ranked (number e) (told e) c.in-err-pageable.ensures))
+    (lodge_not_paged m a c.args.set w c.args.ranks.now ranked (number e) (told e) c.in_err-pageable.ensures))
 
 pub returns-then-not-bears : goal.returns-then-not-bears
 returns-then-not-bears g c =
@@ -41,12 +41,12 @@ returns-then-not-bears g c =
     let a = view c.args.self.now in
     let w = way_of c.args.way in
     let ranked = c.ranked.ensures.0 c.if-not-ranked.false in
-    let free = c.in-ok-pageable.ensures.0 in
+    let free = c.in_ok-pageable.ensures.0 in
     let same = length-map (held c.args.self.now.pages) (page_of a.rules) in
-    let fails = subst (λ (rules : List Rule). Bears m w (rules_of rules) c.args.set c.args.ranks.now → ⊥) c.as-slice.ensures
+    let fails = subst (λ (rules : List Rule). Bears m w (rules_of rules) c.args.set c.args.ranks.now → ⊥) c.as_slice.ensures
     (not_from_Decides c.bears.result c.bears.ensures c.if-not-bears.true) in
     refuses m a (lodge w c.args.set c.args.ranks.now) Unborne
-    (lodge_unborne m a c.args.set w c.args.ranks.now (omega arith) ranked c.in-ok-pageable.ensures.1 fails)
+    (lodge_unborne m a c.args.set w c.args.ranks.now (omega arith) ranked c.in_ok-pageable.ensures.1 fails)
 
 pub returns : goal.returns
 returns g c =
@@ -54,9 +54,9 @@ returns g c =
     let a = view c.args.self.now in
     let w = way_of c.args.way in
     let given = c.args.ranks.now in
-    let free = c.in-ok-pageable.ensures.0 in
+    let free = c.in_ok-pageable.ensures.0 in
     let same = length-map (held c.args.self.now.pages) (page_of a.rules) in
-    let bears = subst (λ (rules : List Rule). Bears m w (rules_of rules) c.args.set given) c.as-slice.ensures
+    let bears = subst (λ (rules : List Rule). Bears m w (rules_of rules) c.args.set given) c.as_slice.ensures
     (c.bears.ensures.0 c.if-not-bears.false) in (
       free,
       ap length c.copied.ensures ∙ bears.ranked.places,

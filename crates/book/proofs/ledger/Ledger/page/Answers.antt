@@ -10,11 +10,11 @@ use Rattle.book.specs.View.{view, page_of}
 use Rattle.book.specs.declared.page.Page.{Page}
 use Rattle.book.proofs.ledger.Ledger.page.Goals as goal
 
-pub returns-in-default : goal.returns-in-default
-returns-in-default g c =
+pub returns-in_default : goal.returns-in_default
+returns-in_default g c =
     let ps = held c.args.self.now.pages in
     let same = length-map ps (page_of (rules_of (held c.args.self.now.rules))) in
-    let enough = c.if-is-short.ensures in
+    let enough = c.if-is_short.ensures in
     let past : length ps ≤ c.args.number = search rules in
     (refl, inr ((refl, refl), omega arith, omega arith))
 
@@ -25,9 +25,9 @@ returns g c =
     let ls = rules_of rs in
     let page = c.in-Some.page.now in
     let n = c.args.number in
-    let told = c.summary-of.ensures in
+    let told = c.summary_of.ensures in
     let same = length-map ps (page_of ls) in
-    let enough = c.if-is-short.ensures in
+    let enough = c.if-is_short.ensures in
     let there : n < length ps = search rules in
     let this : page ≡ get_or ps n page = search rules in
     let on : Page → ℕ = λ p. p.rules in
@@ -39,12 +39,12 @@ returns g c =
     let few : page.rules ≤ length ls = omega arith in (
       omega arith,
       omega arith,
-      λ d. subst (λ (p : plain.Page). Tells p c.summary-of.result c.args.memory.now c.write-ranks.new.memory)
+      λ d. subst (λ (p : plain.Page). Tells p c.summary_of.result c.args.memory.now c.write_ranks.new.memory)
           (sym (get_or-map (page_of ls) ps n page d there ∙ ap (page_of ls) (sym this)))
           record {
             way = ap way_of told.0;
             «set» = told.1;
             rules = told.2 ∙ sym (length-take-le page.rules ls few);
-            memory = c.write-ranks.ensures;
+            memory = c.write_ranks.ensures;
           },
     )

@@ -26,17 +26,17 @@ either m a M X x free (Err e) c = subst (λ (n : ℕ). NotPagedFirst m a M n (to
     one [] h = absurd h
     one (i ∷ rest) h = subst (λ (l : List ℕ). NotPagedFirst m a M 23 (i ∷ l)) (sym h.0) (broken m a M free i h.1)
 
-pub returns-then-not-has-free-page : goal.returns-then-not-has-free-page
-returns-then-not-has-free-page g c =
+pub returns-then-not-has_free_page : goal.returns-then-not-has_free_page
+returns-then-not-has_free_page g c =
     let m = g.B.Bank.meaning c.args.self.now.bank in
     let ps = held c.args.self.now.pages in
-    let full = not_from_Decides c.has-free-page.result c.has-free-page.ensures c.if-not-has-free-page.true in
+    let full = not_from_Decides c.has_free_page.result c.has_free_page.ensures c.if-not-has_free_page.true in
     let same = length-map ps (page_of (rules_of (held c.args.self.now.rules))) in
     no_page m (view c.args.self.now) c.args.set (omega arith)
 
 pub returns : goal.returns
 returns g c =
     let m = g.B.Bank.meaning c.args.self.now.bank in
-    let free : length (held c.args.self.now.pages) < 64 = c.has-free-page.ensures.0 c.if-not-has-free-page.false in
+    let free : length (held c.args.self.now.pages) < 64 = c.has_free_page.ensures.0 c.if-not-has_free_page.false in
     let same = length-map (held c.args.self.now.pages) (page_of (rules_of (held c.args.self.now.rules))) in
     either m (view c.args.self.now) c.args.set (length (held c.args.self.now.pages) < 64) free (omega arith) c.unbroken.result c.unbroken.ensures

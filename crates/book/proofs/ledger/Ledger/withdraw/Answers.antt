@@ -5,11 +5,11 @@ use Rattle.book.specs.View.{view}
 use Rattle.book.proofs.Passing.{refused_on}
 use Rattle.book.proofs.ledger.Ledger.withdraw.Goals as goal
 
-pub returns-in-err-last : goal.returns-in-err-last
-returns-in-err-last g c =
+pub returns-in_err-last : goal.returns-in_err-last
+returns-in_err-last g c =
     let p = err_from_is_err_and c.from-residual.result c.from-residual.ensures.1 in
     record {
       step = refused_on (g.B.Bank.meaning c.args.self.now.bank) (view c.args.self.now) withdraw
-          c.from-residual.result p.0 c.in-err-last.field-0.0 p.1 p.2 c.in-err-last.ensures;
+          c.from-residual.result p.0 c.in_err-last.field-0.0 p.1 p.2 c.in_err-last.ensures;
       same = refl;
     }

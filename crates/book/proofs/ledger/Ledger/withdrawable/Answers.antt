@@ -11,24 +11,24 @@ use Rattle.book.proofs.Pages.{held_last, last_held}
 use Rattle.book.proofs.Steps.{refuses, withdraw_none, withdraw_held, withdraw_ready}
 use Rattle.book.proofs.ledger.Ledger.withdrawable.Goals as goal
 
-pub returns-in-default : goal.returns-in-default
-returns-in-default g c =
+pub returns-in_default : goal.returns-in_default
+returns-in_default g c =
     let m = g.B.Bank.meaning c.args.self.now.bank in
     let a = view c.args.self.now in
     let rs = held c.args.self.now.rules in
     let same = length-map rs rule_of in
-    let none : length rs ≡ 0 = c.in-default.ensures in
+    let none : length rs ≡ 0 = c.in_default.ensures in
     refuses m a withdraw NoRule (withdraw_none m a (nil_from_length (rules_of rs) (omega arith)))
 
-pub returns-then-is-held : goal.returns-then-is-held
-returns-then-is-held g c =
+pub returns-then-is_held : goal.returns-then-is_held
+returns-then-is_held g c =
     let m = g.B.Bank.meaning c.args.self.now.bank in
     let a = view c.args.self.now in
     let rs = held c.args.self.now.rules in
     let ps = held c.args.self.now.pages in
     let same = length-map rs rule_of in
     let some = c.in-Some.ensures in
-    let last : last_of (counts ps) ≡ length rs = c.is-held.ensures.0 c.if-is-held.true in
+    let last : last_of (counts ps) ≡ length rs = c.is_held.ensures.0 c.if-is_held.true in
     refuses m a withdraw RuleHeld
     (withdraw_held m a (λ e. let n = ap length e in omega arith) (held_last ps rs c.args.self.now.level (omega arith) last))
 
@@ -40,7 +40,7 @@ returns g c =
     let ps = held c.args.self.now.pages in
     let same = length-map rs rule_of in
     let some = c.in-Some.ensures in
-    let free = not_from_Decides c.is-held.result c.is-held.ensures c.if-is-held.false in
+    let free = not_from_Decides c.is_held.result c.is_held.ensures c.if-is_held.false in
     let most = c.args.self.now.level.0 in
     let under : last_of (counts ps) < length rs = omega arith in (
       some,

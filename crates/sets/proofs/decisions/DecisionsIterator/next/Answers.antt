@@ -4,10 +4,10 @@ use Rattle.sets.proofs.Listing.{lowest_first, decisions_none}
 use Rattle.sets.proofs.decisions.DecisionsIterator.next.Goals as goal
 use Rattle.std.proofs.iter.Next.{firm}
 
-pub returns-in-default : goal.returns-in-default
-returns-in-default c =
+pub returns-in_default : goal.returns-in_default
+returns-in_default c =
     record {
-      steps = decisions_none c.args.self.now.rest c.in-default.ensures;
+      steps = decisions_none c.args.self.now.rest c.in_default.ensures;
       goes = record { on = λ e. tt; keeps = search rules; rests = λ h. search rules };
     }
 

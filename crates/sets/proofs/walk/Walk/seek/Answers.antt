@@ -22,30 +22,28 @@ stepped (Some w) span start up at p q h c = (
       (ap₂ (λ (x y : ℕ). sets_from at x y) (sym p) (sym q) ∙ c.1 ∙ ap₂ (λ (x y : ℕ). at ∷ sets_from w.at x y) p q),
 )
 
-pub invariant-of-result : goal.invariant-of-result
-invariant-of-result c = (
-  (
+pub invariant_of-result : goal.invariant_of-result
+invariant_of-result c = record {
+  inside = (
     subst (λ (x : ℕ). x ⊆ c.args.start) (sym c.new-span.ensures.lower) (none_inside c.args.start),
     subst (λ (x : ℕ). c.args.start ⊆ x) (sym c.new-span.ensures.upper)
         (minus_none c.args.start c.args.upper (sym c.difference-outside.ensures ∙ c.if-outside-eq0.true)),
-  ),
-  tt,
-)
+  );
+}
 
-pub invariant-of-next : goal.invariant-of-next
-invariant-of-next c = (
-  (
+pub invariant_of-next : goal.invariant_of-next
+invariant_of-next c = record {
+  inside = (
     subst (λ (x : ℕ). x ⊆ c.intersection-below.result) (sym c.new-span.ensures.lower) (none_inside c.intersection-below.result),
     subst (λ (x : ℕ). c.intersection-below.result ⊆ x) (sym c.new-span.ensures.upper)
         (subst (λ (x : ℕ). x ⊆ c.args.upper) (sym c.intersection-below.ensures) (and_second c.union.result c.args.upper)),
-  ),
-  tt,
-)
+  );
+}
 
 pub returns : goal.returns
 returns c =
     let start = c.args.start in let up = c.args.upper in let at = c.intersection-below.result in
-    let k = c.filled-to-highest.ensures in
+    let k = c.filled_to_highest.ensures in
     stepped c.next.result c.new-span.result start up at c.new-span.ensures.lower c.new-span.ensures.upper
     (λ rest e. after_last start up k.0 at rest (omega arith) (subst (Highest k.0) c.difference-outside.ensures k.1)
     (c.intersection-below.ensures ∙ ap (λ (x : ℕ). x ∩ up) (c.union.ensures ∙ ap (λ (x : ℕ). start ∪ x) k.2)) e)

@@ -5,8 +5,8 @@ use Rattle.weighed.specs.Tables.{allowed, balanced}
 use Rattle.weighed.proofs.Picking.{pick_at, at_place}
 use Rattle.weighed.proofs.bank.WeighedBank.never_at.Goals as goal
 
-pub ask-never-requires : goal.ask-never-requires
-ask-never-requires g c =
+pub ask_never-requires : goal.ask_never-requires
+ask_never-requires g c =
     let b = c.args.self.now in let p = c.in-Some.ensures in
     record {
       narrow = subst (λ (d : ℕ). size d ≤ 12) (pick_at b.conditions.now c.args.k (λ x. x.domain) 0 c.in-Some.c p.0 p.1) (b.narrow c.args.k);
@@ -22,4 +22,4 @@ pub returns-in-Some : goal.returns-in-Some
 returns-in-Some g c =
     let b = c.args.self.now in let s = g.M.Measure.scale in let p = c.in-Some.ensures in
     at_place b.conditions.now (λ x. x.domain) (λ x f. allowed s x b.weights.now && balanced s x b.weights.now f)
-    c.args.k c.args.span.lower c.args.span.upper c.in-Some.c false c.ask-never.result p.0 p.1 c.ask-never.ensures
+    c.args.k c.args.span.lower c.args.span.upper c.in-Some.c false c.ask_never.result p.0 p.1 c.ask_never.ensures
