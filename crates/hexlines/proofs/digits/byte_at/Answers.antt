@@ -8,11 +8,11 @@ returns-then-text-at-lt2 c = λ b q small e. omega (arith, ap length e, length-d
 
 pub returns-in_err-high : goal.returns-in_err-high
 returns-in_err-high c =
-    rw c.from-residual.ensures (λ b q small e. c.in_err-high.ensures (b / 16) (omega arith) (sym (first_at c.args.text.now c.args.at _ _ _ e)))
+    rw c.from_residual.ensures (λ b q small e. c.in_err-high.ensures (b / 16) (omega arith) (sym (first_at c.args.text.now c.args.at _ _ _ e)))
 
 pub returns-in_err-low : goal.returns-in_err-low
 returns-in_err-low c =
-    rw c.from-residual-in_err-low.ensures (λ b q small e. c.in_err-low.ensures (b % 16) (omega arith) (sym (second_at c.args.text.now c.args.at _ _ _ e)))
+    rw c.from_residual-in_err-low.ensures (λ b q small e. c.in_err-low.ensures (b % 16) (omega arith) (sym (second_at c.args.text.now c.args.at _ _ _ e)))
 
 pub returns : goal.returns
 returns c =

@@ -13,7 +13,7 @@ returns-then-len-eq0 c =
       refl,
       front_no_line text (held c.front-line.result) told.front told.stops (elim c.then-len-eq0.branch [
         | then-len-eq0-via-then-len-eq0 w ↦ λ some. let none = w.if-len-eq0.true in absurd (omega arith)
-        | then-len-eq0-via-else-len-eq0+then-not-ends-at w ↦ λ some. subst (λ k. Feed text (2 * k) false) n w.if-not-ends_at.ensures
+        | then-len-eq0-via-else-len-eq0+then-not-ends_at w ↦ λ some. subst (λ k. Feed text (2 * k) false) n w.if-not-ends_at.ensures
       ]),
     )
 

@@ -21,14 +21,14 @@ loop-d-preserved c =
     let p : ℕ → Bool = λ d. has s d && ltb (rank xs d) (rank xs c.args.b) in
     let l : d < 64 = omega arith in
     elim c.if-contains_place.branch [
-      | then-contains-place+then-is-lower w ↦
+      | then-contains_place+then-is_lower w ↦
           w.out-is ∙ ap₂ bit_or c.loop-d.invariant (one_shl d 64 l)
           ∙ collect_in d p (and_from (has s d) lo (sym c.contains_place.ensures ∙ w.if-contains_place.true) (sym w.is_lower.ensures ∙ w.if-is_lower.true))
           ∙ ap (λ (n : ℕ). collect n p) (sym (add-one d))
-      | else-contains-place w ↦
+      | else-contains_place w ↦
           let q : p d ≡ false = elim w.else-contains_place.branch [
-            | else-contains-place-via-then-contains-place+else-is-lower v ↦ and_right (has s d) lo (sym v.is_lower.ensures ∙ v.if-is_lower.false)
-            | else-contains-place-via-else-contains-place v ↦ and_left (has s d) lo (sym c.contains_place.ensures ∙ v.if-contains_place.false)
+            | else-contains_place-via-then-contains_place+else-is_lower v ↦ and_right (has s d) lo (sym v.is_lower.ensures ∙ v.if-is_lower.false)
+            | else-contains_place-via-else-contains_place v ↦ and_left (has s d) lo (sym c.contains_place.ensures ∙ v.if-contains_place.false)
           ] in
           w.out-is ∙ c.loop-d.invariant ∙ collect_out d p q ∙ ap (λ (n : ℕ). collect n p) (sym (add-one d))
     ]

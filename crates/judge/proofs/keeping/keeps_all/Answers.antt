@@ -10,4 +10,4 @@ returns g c =
     let m = g.B.Bank.meaning c.args.bank.now in
     none_failing rule_of (Keeps m c.args.set) c.args.rules.now c.lowest_broken.result
     (λ (i : ℕ). (j : ℕ) → j < i → HoldsAt (λ x. Keeps m c.args.set (rule_of x)) c.args.rules.now j) c.is_none.result
-    c.lowest_broken.ensures (turned c.is_none.result (is_some c.lowest_broken.result) c.is_none.ensures)
+    c.lowest_broken.ensures.broken (turned c.is_none.result (is_some c.lowest_broken.result) c.is_none.ensures)

@@ -42,7 +42,7 @@ returns g c =
     let stop = c.first_borne-stop.result in let coming = to_come c.sets.ahead in let rest = to_come stop.ahead in
     gathers_of m w rs c.args.start c.in_ok-ahead.ahead c.args.places.now _ _ c.in_ok-ahead.ensures
     (elim c.match-stop.branch [
-      | in-default v ↦
+      | in_default v ↦
           let k = MatchOption-at_none (NoneBorne m w rs coming stop.tried) (FirstBorne m w rs coming rest stop.tried) v.in_default.is c.first_borne-stop.ensures in
           ends_as v.ending-is
           (placing_complete (c.len.ensures ∙ ap (λ l. l.len) v.list-is) (search rules)
