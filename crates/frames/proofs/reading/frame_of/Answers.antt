@@ -33,8 +33,8 @@ returns-else-ranks-set c =
     let s = c.args.bytes.now in
     let n : 10 ≤ length s = search rules in
     let k : get_or s 0 0 ≡ 3 = search rules in
-    let way : way_byte (way_of c.in_ok-way.way) ≡ get_or s 1 0 = search rules in
-    (c.if-ranks-set.false, page_front s c.number_of-set.result (way_byte (way_of c.in_ok-way.way)) n k way c.number_of-set.ensures)
+    let way : way_byte (way_of c.in_ok-way-in-3.way) ≡ get_or s 1 0 = search rules in
+    (c.if-ranks-set.false, page_front s c.number_of-set.result (way_byte (way_of c.in_ok-way-in-3.way)) n k way c.number_of-set.ensures)
 
 pub returns-in-2 : goal.returns-in-2
 returns-in-2 c =
