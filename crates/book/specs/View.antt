@@ -1,6 +1,7 @@
 -- The account that a book stands for.
 use Rattle.std.specs.Prelude.{ℕ, List, map, take, Ok, Err, Result}
 use Rattle.answer_sets.specs.Rules as meant
+use Rattle.banks.specs.declared.bank.Bank.{Ghosts}
 use Rattle.refusals.specs.declared.refusal.Refusal.{Refusal}
 use Rattle.refusals.specs.Numbers.{number, told}
 use Rattle.rules.specs.Shapes.{way_of, rules_of}
@@ -18,7 +19,7 @@ page_of rules p = record { way = way_of p.way; «set» = p.«set»; ranks = p.ra
 abbrev pub account_of : List Rule → List Page → Account
 account_of rules pages = record { rules = rules_of rules; pages = map (page_of (rules_of rules)) pages }
 
-abbrev pub view : {B : Type 0} → Ledger B → Account
+abbrev pub view : {B : Type 0} {b : Ghosts B} → Ledger B b → Account
 view book = account_of (held book.rules) (held book.pages)
 
 -- what a call answers: a number, or a refusal

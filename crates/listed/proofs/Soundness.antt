@@ -1,5 +1,5 @@
 -- Tables, condition by condition.
-use Rattle.std.proofs.Common.{◌≡◌, ℕ, ◌+◌, ◌<◌, ◌≤◌, Bool, true, false, List, length, Decides, sym, subst, ⊎_elim, not-suc-le-zero, arith, lit<}
+use Rattle.std.proofs.Common.{◌≡◌, ℕ, ◌+◌, ◌≤◌, Bool, true, false, List, length, Decides, sym, subst, ⊎_elim, not-suc-le-zero, arith, lit<}
 use lib.Count.{ones-le}
 use Rattle.std.proofs.lemmas.List.{get_or_past}
 use Rattle.std.proofs.lemmas.Bool.{both_ways, cases_lt}

@@ -1,5 +1,5 @@
 -- Membership in sets that are numbers: digit by digit, and from it the laws of subset, intersection, union and difference.
-use Rattle.std.proofs.Common.{◌≡◌, ℕ, zero, suc, ◌+◌, ◌-◌, ◌*◌, ◌/◌, ◌%◌, ◌^◌, ◌<◌, ◌≤◌, Bool, true, false, not, ◌&&◌, ◌||◌, eqb, ◌⊎◌, Decides, sym, refl, ap, ◌∙◌, ap₂, ⊎_elim, le_trans, le_of_eq, le_of_suc-le-suc, not-suc-le-zero, lt_of_le_of_lt, mod-lt, zero-lt-suc, pow-suc, div-add-mod', mul-div_cancel, one-add, arith, pow_mono, shr-shr}
+use Rattle.std.proofs.Common.{◌≡◌, ℕ, zero, suc, ◌+◌, ◌*◌, ◌/◌, ◌%◌, ◌^◌, ◌<◌, ◌≤◌, Bool, true, false, not, ◌&&◌, ◌||◌, eqb, ◌⊎◌, Decides, sym, refl, ap, ◌∙◌, ap₂, ⊎_elim, le_trans, le_of_eq, le_of_suc-le-suc, not-suc-le-zero, lt_of_le_of_lt, mod-lt, zero-lt-suc, pow-suc, div-add-mod', mul-div_cancel, one-add, arith, pow_mono, shr-shr}
 use native.Mathlib.Nat.{div-eq_of_lt, mul-mod_left}
 use lib.Dec.{eqb-suc-zero, eqb-zero-suc, eqb-suc-suc}
 use lib.Arith.{bin_ind}

@@ -1,5 +1,5 @@
 -- Tables of weighed conditions, element by element.
-use Rattle.std.proofs.Common.{◌≡◌, ℕ, zero, suc, ◌+◌, ◌<◌, ◌≤◌, Bool, true, false, not, ◌&&◌, List, [], ◌∷◌, length, get_or, take, drop, Decides, sym, refl, ap, ◌∙◌, subst, inr, le_of_suc-le-suc, not-suc-le-zero, arith, lit<}
+use Rattle.std.proofs.Common.{◌≡◌, ℕ, zero, suc, ◌+◌, ◌<◌, ◌≤◌, Bool, true, false, ◌&&◌, List, [], ◌∷◌, length, get_or, take, drop, Decides, sym, refl, ap, ◌∙◌, subst, inr, le_of_suc-le-suc, not-suc-le-zero, arith, lit<}
 use mathlib.Core.Path.{fun_ext}
 use lib.Count.{ones-le}
 use Rattle.std.specs.List.{AllByRecursion as All}

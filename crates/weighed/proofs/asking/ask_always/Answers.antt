@@ -1,4 +1,4 @@
-use Rattle.std.proofs.Common.{◌-◌, true, length, drop, refl, ap, arith, length-take}
+use Rattle.std.proofs.Common.{true, length, drop, refl, ap, arith, length-take}
 use Rattle.sets.specs.Sets.{◌∩◌, size}
 use Rattle.weighed.proofs.Picking.{answered, not_always, row_allowed, low_compared, high_compared}
 use Rattle.weighed.proofs.asking.ask_always.Goals as goal

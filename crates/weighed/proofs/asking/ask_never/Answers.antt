@@ -1,4 +1,4 @@
-use Rattle.std.proofs.Common.{◌-◌, false, length, drop, sym, ap, subst, arith, length-take}
+use Rattle.std.proofs.Common.{false, length, drop, sym, ap, subst, arith, length-take}
 use Rattle.sets.specs.Sets.{size}
 use Rattle.measures.specs.Scales.{Total}
 use Rattle.weighed.proofs.Picking.{answered, row_allowed, low_compared, high_compared}

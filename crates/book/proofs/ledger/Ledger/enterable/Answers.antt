@@ -15,10 +15,10 @@ use Rattle.book.proofs.ledger.Ledger.enterable.Goals as goal
 
 pub returns-in_err-rule : goal.returns-in_err-rule
 returns-in_err-rule g c =
-    let p = err_from_is_err_and c.from-residual.result c.from-residual.ensures.1 in
+    let p = err_from_is_err_and c.from_residual.result c.from_residual.ensures.1 in
     let m = g.B.Bank.meaning c.args.self.now.bank in
     let a = view c.args.self.now in
-    passed_on _ (Refuses m a (enter c.args.head c.args.body.now)) c.from-residual.result p.0 c.in_err-rule.field-0.0 p.1 p.2
+    passed_on _ (Refuses m a (enter c.args.head c.args.body.now)) c.from_residual.result p.0 c.in_err-rule.field-0.0 p.1 p.2
     (refuses m a (enter c.args.head c.args.body.now) c.in_err-rule.field-0.0 (c.in_err-rule.ensures a))
 
 pub returns-then-not-has_free_rule : goal.returns-then-not-has_free_rule

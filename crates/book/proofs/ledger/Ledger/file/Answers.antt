@@ -8,9 +8,9 @@ use Rattle.book.proofs.ledger.Ledger.file.Goals as goal
 
 pub returns-in_err-ranks : goal.returns-in_err-ranks
 returns-in_err-ranks g c =
-    let p = err_from_is_err_and c.from-residual.result c.from-residual.ensures.1 in
+    let p = err_from_is_err_and c.from_residual.result c.from_residual.ensures.1 in
     record {
       step = refused_on (g.B.Bank.meaning c.args.self.now.bank) (view c.args.self.now) (file (way_of c.args.way) c.args.set)
-          c.from-residual.result p.0 c.in_err-ranks.field-0.0 p.1 p.2 c.in_err-ranks.ensures;
+          c.from_residual.result p.0 c.in_err-ranks.field-0.0 p.1 p.2 c.in_err-ranks.ensures;
       same = refl;
     }

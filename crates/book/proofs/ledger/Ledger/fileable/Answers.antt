@@ -21,8 +21,8 @@ returns-in_err-pageable g c =
     let a = view c.args.self.now in
     let w = way_of c.args.way in
     let e = c.in_err-pageable.field-0.0 in
-    let p = err_from_is_err_and c.from-residual.result c.from-residual.ensures.1 in
-    passed_on _ (Refuses m a (file w c.args.set)) c.from-residual.result p.0 e p.1 p.2
+    let p = err_from_is_err_and c.from_residual.result c.from_residual.ensures.1 in
+    passed_on _ (Refuses m a (file w c.args.set)) c.from_residual.result p.0 e p.1 p.2
     (refuses m a (file w c.args.set) e (file_not_paged m a c.args.set w (number e) (told e) c.in_err-pageable.ensures))
 
 pub returns-in-Some : goal.returns-in-Some

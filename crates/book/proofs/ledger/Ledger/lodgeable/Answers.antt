@@ -29,9 +29,9 @@ returns-in_err-pageable g c =
     let a = view c.args.self.now in
     let w = way_of c.args.way in
     let e = c.in_err-pageable.field-0.0 in
-    let p = err_from_is_err_and c.from-residual.result c.from-residual.ensures.1 in
+    let p = err_from_is_err_and c.from_residual.result c.from_residual.ensures.1 in
     let ranked = c.ranked.ensures.0 c.if-not-ranked.false in
-    passed_on _ (Refuses m a (lodge w c.args.set c.args.ranks.now)) c.from-residual.result p.0 e p.1 p.2
+    passed_on _ (Refuses m a (lodge w c.args.set c.args.ranks.now)) c.from_residual.result p.0 e p.1 p.2
     (refuses m a (lodge w c.args.set c.args.ranks.now) e
     (lodge_not_paged m a c.args.set w c.args.ranks.now ranked (number e) (told e) c.in_err-pageable.ensures))
 
