@@ -1,9 +1,9 @@
 -- Ranks bear M exactly where M is full of the rounds.
-use Rattle.std.proofs.Common.{◌≡◌, ℕ, zero, suc, ◌^◌, ◌<◌, ◌≤◌, Bool, true, false, not, eqb, ◌⊎◌, List, length, refl, inl, inr, ⊎_elim, zero-le, le_trans, le_of_eq, le_refl, le_of_suc-le-suc, not-suc-le-zero, arith}
+use Rattle.std.proofs.Common.{◌≡◌, ℕ, zero, suc, ◌^◌, ◌<◌, ◌≤◌, Bool, true, false, not, eqb, List, length, refl, inl, inr, ⊎_elim, zero-le, le_trans, le_of_eq, le_refl, le_of_suc-le-suc, not-suc-le-zero, arith}
 use lib.ListN.{get_or-eq_default}
 use Rattle.std.specs.List.{AllByRecursion as All}
 use Rattle.std.proofs.lemmas.Bool.{cases_Bool, cases_lt, both_ways, and_parts, and_from, or_cases, or_left, or_right, eqb-true, eq-eqb, not-true, not_from_false}
-use Rattle.sets.specs.Sets.{has, ◌∈◌, ◌∉◌, ◌⊆◌, ◌∩◌, inside}
+use Rattle.sets.specs.Sets.{has, ◌∈◌, ◌∉◌, ◌⊆◌, ◌∩◌}
 use Rattle.banks.specs.Meaning.{Meaning}
 use Rattle.answer_sets.specs.Rules.{Way, reduct, complement, Head, decision, no_head, Rule, holds, HeadIn, Keeps, Carried, CanGive, Gives, rank, below, Bears, Borne}
 use Rattle.answer_sets.specs.Theorems.{Minimal, ComplementReduct, Given}

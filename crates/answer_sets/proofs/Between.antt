@@ -1,5 +1,5 @@
 -- A test that goes through all sets between two sets.
-use Rattle.std.proofs.Common.{◌≡◌, ℕ, zero, suc, ◌+◌, ◌*◌, ◌/◌, ◌%◌, ◌^◌, ◌<◌, Bool, true, false, cond, ◌⊎◌, sym, refl, ap, ◌∙◌, subst, ⊎_elim, mod-lt, zero-lt-suc, div-add-mod', arith}
+use Rattle.std.proofs.Common.{◌≡◌, ℕ, zero, suc, ◌+◌, ◌*◌, ◌/◌, ◌%◌, ◌^◌, ◌<◌, Bool, true, false, cond, sym, refl, ap, ◌∙◌, subst, ⊎_elim, mod-lt, zero-lt-suc, div-add-mod', arith}
 use lib.Arith.{lt-one}
 use Rattle.std.proofs.lemmas.Bool.{cases_Bool, both_ways, and_parts, and_from, eqb-true, eqb-false}
 use Rattle.sets.specs.Sets.{has, ◌∈◌, ◌⊆◌}

@@ -1,9 +1,9 @@
 -- What carries an entry, as a test; its monotony; and that what is carried holds.
-use Rattle.std.proofs.Common.{◌≡◌, ℕ, ◌^◌, ◌<◌, Bool, true, false, cond, not, ◌⊎◌, List, refl, ap, ◌∙◌, subst, ⊎_elim, lt_of_le_of_lt}
+use Rattle.std.proofs.Common.{◌≡◌, ℕ, ◌^◌, ◌<◌, Bool, true, false, cond, not, List, refl, ap, ◌∙◌, subst, ⊎_elim, lt_of_le_of_lt}
 use lib.Bits.{and_le_l}
 use Rattle.std.specs.List.{AllByRecursion as All}
 use Rattle.std.proofs.lemmas.Bool.{both_ways, and_parts, and_from, eqb-true, eq-eqb, not-true, not_from_false}
-use Rattle.sets.specs.Sets.{has, ◌∈◌, ◌⊆◌, ◌∩◌}
+use Rattle.sets.specs.Sets.{◌∈◌, ◌⊆◌, ◌∩◌}
 use Rattle.banks.specs.Meaning.{Meaning}
 use Rattle.answer_sets.specs.Rules.{Any, Way, reduct, complement, Head, decision, no_head, Entry, Rule, meets, holds, HeadIn, Keeps, CarriedBy, Carried, Gives}
 use Rattle.answer_sets.specs.Tests.{allb, carriedb_by, carriedb, heads, givesb, derives}

@@ -4,8 +4,8 @@ use native.Mathlib.Decide.{le_ind}
 use Rattle.std.specs.List.{range_with_len}
 use Rattle.std.proofs.lemmas.List.FromFn.{length-map-range_with_len, get_or-map-range_with_len, fill_by_all}
 use Rattle.std.proofs.lemmas.Bool.{cases_Bool, both_ways, lt-ltb, ltb-true, and_parts, and_from, cond-true, cond-false}
-use Rattle.sets.specs.Sets.{has, ◌∈◌, ◌∉◌, ◌⊆◌, inside, collect}
-use Rattle.answer_sets.specs.Rules.{decision, rank, below, Ranked}
+use Rattle.sets.specs.Sets.{has, ◌∈◌, ◌∉◌, ◌⊆◌, collect}
+use Rattle.answer_sets.specs.Rules.{rank, below, Ranked}
 use Rattle.answer_sets.specs.Tests.{round}
 use Rattle.sets.proofs.Members.{has_none, sub_antisym, member_below}
 use Rattle.sets.proofs.Collecting.{outsider, in_collect, to_collect, members, members_le, members_less}

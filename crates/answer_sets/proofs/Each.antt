@@ -2,7 +2,7 @@
 use Rattle.std.proofs.Common.{◌≡◌, ℕ, zero, suc, ◌<◌, Bool, true, false, cond, ◌⊎◌, List, [], ◌∷◌, ◌++◌, map, length, get_or, filter, refl, subst, inl, inr, ⊎_elim, le_of_suc-le-suc, not-suc-le-zero}
 use Rattle.std.specs.List.{AllByRecursion as All}
 use Rattle.std.proofs.lemmas.Bool.{both_ways, and_parts, and_from, or_cases, or_left, or_right}
-use Rattle.answer_sets.specs.Rules.{Any, holds}
+use Rattle.answer_sets.specs.Rules.{Any}
 use Rattle.answer_sets.specs.Tests.{allb, anyb}
 
 pub allb_all : {X : Type 0} (p : X → Bool) (P : X → Type 0) → ((x : X) → p x ≡ true → P x) → (xs : List X) → allb p xs ≡ true → All P xs

@@ -23,7 +23,7 @@ add-requires c =
 
 pub loop-d-init : goal.loop-d-init
 loop-d-init c =
-    let starts : c.into-iter-d-iterator.result.rest ≡ c.args.set = ap (λ (s : Decisions). s.rest) c.into-iter-d-iterator.ensures.into-iter-gives ∙ c.of-d-items.ensures in
+    let starts : c.into_iter-d-iterator.result.rest ≡ c.args.set = ap (λ (s : Decisions). s.rest) c.into_iter-d-iterator.ensures.into_iter_gives ∙ c.of-d-items.ensures in
     ap (λ s. held c.args.line.now ++ map (rank c.args.ranks.now) (decisions s)) starts
 
 pub loop-d-preserved : goal.loop-d-preserved

@@ -2,7 +2,6 @@ use Rattle.std.proofs.Common.{get_or, refl, arith}
 use Rattle.answer_sets.specs.Rules as meant
 use Rattle.answer_sets.specs.Rules.{Carried}
 use Rattle.rules.specs.Shapes.{entry_of, way_of}
-use Rattle.rules.specs.declared.entry.Entry.{Entry}
 use Rattle.judge.proofs.Passing.{blank, fails, passes, passed}
 use Rattle.judge.proofs.carrying.all_carried.Goals as goal
 

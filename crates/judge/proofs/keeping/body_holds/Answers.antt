@@ -2,7 +2,6 @@ use Rattle.std.proofs.Common.{◌≡◌, true, get_or, refl, arith}
 use Rattle.answer_sets.specs.Rules as meant
 use Rattle.answer_sets.specs.Rules.{holds}
 use Rattle.rules.specs.Shapes.{entry_of}
-use Rattle.rules.specs.declared.entry.Entry.{Entry}
 use Rattle.judge.proofs.Passing.{blank, fails, passes, passed, decides_eq}
 use Rattle.judge.proofs.keeping.body_holds.Goals as goal
 

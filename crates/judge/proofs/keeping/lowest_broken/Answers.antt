@@ -1,5 +1,4 @@
 use Rattle.std.proofs.Common.{arith}
-use Rattle.answer_sets.specs.Rules as meant
 use Rattle.answer_sets.specs.Rules.{Keeps}
 use Rattle.rules.specs.Shapes.{rule_of}
 use Rattle.rules.specs.declared.rule.Rule.{Rule}

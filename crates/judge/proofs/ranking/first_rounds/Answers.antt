@@ -1,7 +1,6 @@
 use Rattle.std.proofs.Common.{◌≡◌, ℕ, suc, ◌+◌, Bool, cond, ◌&&◌, eqb, get_or, sym, refl, ap, ◌∙◌, subst, ap₂, add-one, arith}
 use lib.ListN.{get_or-replicate}
 use Rattle.sets.specs.Sets.{has}
-use Rattle.answer_sets.specs.Rules as meant
 use Rattle.answer_sets.specs.Tests.{derives, round}
 use Rattle.rules.specs.Shapes.{way_of, rules_of}
 use Rattle.judge.specs.Reached.{Stamped}
