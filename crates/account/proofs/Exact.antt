@@ -1,6 +1,6 @@
 -- File and lodge are accepted exactly where a page is free and the set is borne.
 use Rattle.std.proofs.Common.{ℕ, ◌<◌, ◌≤◌, List, [], length, refl, inl, inr, ⊎_elim, arith}
-use Rattle.std.specs.List.{AllByRecursion as All}
+use Rattle.std.specs.List.{AllByRecursion}
 use Rattle.std.proofs.ByRecursion.{All-get_or}
 use Rattle.std.proofs.lemmas.Bool.{cases_lt}
 use Rattle.banks.specs.Meaning.{Meaning}
@@ -13,7 +13,7 @@ use Rattle.account.specs.Laws.{FileExact, LodgeExact}
 pub room : (n most : ℕ) → (most ≤ n → ⊥) → n < most
 room n most h = ⊎_elim (λ l. l) (λ l. absurd (h l)) (cases_lt n most)
 
-module _ (m : Meaning) (a : Account) (M : ℕ) (free : Free a) (kept : All (Keeps m M) a.rules) where
+module _ (m : Meaning) (a : Account) (M : ℕ) (free : Free a) (kept : AllByRecursion (Keeps m M) a.rules) where
   -- where a page is free and M keeps the rules, a page can be made of it
   pub pageable : (n : ℕ) (told : List ℕ) → NotPaged m a M n told → ⊥
   pageable n told (inl (e, t, g)) = omega arith

@@ -1,7 +1,7 @@
 -- An account stays within its limits, and its pages stay borne and rest on the first of its rules.
 use Rattle.std.proofs.Common.{◌≡◌, ℕ, ◌<◌, ◌≤◌, ◌⊎◌, List, [], ◌∷◌, ◌++◌, length, take, sym, refl, ap, ◌∙◌, subst, inl, inr, ⊎_elim, arith}
 use native.Mathlib.Nat.{min-le_right}
-use Rattle.std.specs.List.{AllByRecursion as All}
+use Rattle.std.specs.List.{AllByRecursion}
 use Rattle.std.proofs.lemmas.List.{length-take, length_push, take_all, take-append-le, same_from_push}
 use Rattle.std.proofs.ByRecursion.{All-weaker, All-push}
 use Rattle.std.proofs.lemmas.Bool.{cases_lt}
@@ -41,20 +41,20 @@ last_of (x ∷ xs) = ⊎_elim
     (last_of xs)
 
 -- what holds of all holds of the last
-last_element : {X : Type 0} (P : X → Type 0) (xs : List X) (x : X) → All P (xs ++ x ∷ []) → P x
+last_element : {X : Type 0} (P : X → Type 0) (xs : List X) (x : X) → AllByRecursion P (xs ++ x ∷ []) → P x
 last_element P [] x h = h.0
 last_element P (y ∷ ys) x h = last_element P ys x h.1
 
 -- ---- one call
 
 -- the same pages over other rules
-same_pages : (m : Meaning) (a z : Account) → Kept m a → length z.rules ≤ max_rules → z.pages ≡ a.pages → All (Front z.rules) a.pages → Kept m z
+same_pages : (m : Meaning) (a z : Account) → Kept m a → length z.rules ≤ max_rules → z.pages ≡ a.pages → AllByRecursion (Front z.rules) a.pages → Kept m z
 same_pages m a z k l e f = record {
   few_rules = l;
   few_pages = let n = k.few_pages in let g = ap length e in omega arith;
-  borne = subst (All (PageBorne m)) (sym e) k.borne;
-  fronts = subst (All (Front z.rules)) (sym e) f;
-  longest = λ before last g. subst (All (NoLonger last)) (sym e) (k.longest before last (sym e ∙ g));
+  borne = subst (AllByRecursion (PageBorne m)) (sym e) k.borne;
+  fronts = subst (AllByRecursion (Front z.rules)) (sym e) f;
+  longest = λ before last g. subst (AllByRecursion (NoLonger last)) (sym e) (k.longest before last (sym e ∙ g));
 }
 
 -- the page that is added
@@ -66,13 +66,13 @@ more_pages : (m : Meaning) (a : Account) (w : Way) (M : ℕ) (ranks : List ℕ) 
 more_pages m a w M ranks z k free b (same, more) = record {
   few_rules = let n = k.few_rules in let g = ap length same in omega arith;
   few_pages = let g = ap length more in let n = length_push a.pages (new a w M ranks) in omega arith;
-  borne = subst (All (PageBorne m)) (sym more) (All-push (PageBorne m) a.pages (new a w M ranks) k.borne b);
+  borne = subst (AllByRecursion (PageBorne m)) (sym more) (All-push (PageBorne m) a.pages (new a w M ranks) k.borne b);
   fronts =
-      subst (λ (rules : List Rule). All (Front rules) z.pages) (sym same)
-      (subst (All (Front a.rules)) (sym more)
+      subst (λ (rules : List Rule). AllByRecursion (Front rules) z.pages) (sym same)
+      (subst (AllByRecursion (Front a.rules)) (sym more)
       (All-push (Front a.rules) a.pages (new a w M ranks) k.fronts
       (sym (take_all (length a.rules) a.rules (omega arith)))));
-  longest = λ before last g. subst (All (NoLonger last)) (sym more) (
+  longest = λ before last g. subst (AllByRecursion (NoLonger last)) (sym more) (
       let e : last ≡ new a w M ranks = (same_from_push before a.pages last (new a w M ranks) (sym g ∙ more)).1 in
       let n : length last.rules ≡ length a.rules = ap (λ (p : Page). length p.rules) e in
       All-push (NoLonger last) a.pages (new a w M ranks)
@@ -85,12 +85,12 @@ abbrev Shorter : Account → Page → Type 0
 Shorter a p = length p.rules < length a.rules
 
 -- where a rule may be withdrawn, every page has fewer rules than stand
-all_shorter : (m : Meaning) (a : Account) → Kept m a → ((n : ℕ) (told : List ℕ) → Fits m a withdraw n told → ⊥) → All (Shorter a) a.pages
+all_shorter : (m : Meaning) (a : Account) → Kept m a → ((n : ℕ) (told : List ℕ) → Fits m a withdraw n told → ⊥) → AllByRecursion (Shorter a) a.pages
 all_shorter m a k free = ⊎_elim
-    (λ (e : a.pages ≡ []). subst (All (Shorter a)) (sym e) tt)
+    (λ (e : a.pages ≡ []). subst (AllByRecursion (Shorter a)) (sym e) tt)
     (λ (w : (before : List Page) × (last : Page) × (a.pages ≡ before ++ last ∷ [])).
     let apart : length w.1.rules ≡ length a.rules → ⊥ = λ e. free 26 [] (inr (refl, refl, (w.0, w.1, w.2, e))) in
-    let under = last_element (Front a.rules) w.0 w.1 (subst (All (Front a.rules)) w.2 k.fronts) in
+    let under = last_element (Front a.rules) w.0 w.1 (subst (AllByRecursion (Front a.rules)) w.2 k.fronts) in
     let short = front_length a.rules w.1 under in
     let strict : Shorter a w.1 = ⊎_elim (λ l. l) (λ l. absurd (apart (omega arith))) (cases_lt (length w.1.rules) (length a.rules)) in
     All-weaker (NoLonger w.1) (Shorter a) (λ p l. omega arith) a.pages (k.longest w.0 w.1 w.2))
@@ -106,7 +106,7 @@ step_kept m a (enter h body) (accepted n) z k (free, (e, more, same)) =
     let long = ap length more in
     let push = length_push a.rules r in
     same_pages m a z k (omega arith) same
-    (subst (λ (rules : List Rule). All (Front rules) a.pages) (sym more)
+    (subst (λ (rules : List Rule). AllByRecursion (Front rules) a.pages) (sym more)
     (All-weaker (Front a.rules) (Front (a.rules ++ r ∷ [])) (front_more a.rules r) a.pages k.fronts))
 step_kept m a withdraw (accepted n) z k (free, ((last, less), e, same)) =
     let long = ap length less in

@@ -1,6 +1,6 @@
 -- What every account keeps, whatever calls led to it.
 use Rattle.std.specs.Prelude.{◌≡◌, ◌≤◌, List, [], ◌∷◌, ◌++◌, length, take}
-use Rattle.std.specs.List.{AllByRecursion as All}
+use Rattle.std.specs.List.{AllByRecursion}
 use Rattle.banks.specs.Meaning.{Meaning}
 use Rattle.answer_sets.specs.Rules.{Rule, Bears}
 use Rattle.account.specs.Limits.{max_rules, max_pages}
@@ -22,9 +22,9 @@ NoLonger last p = length p.rules ≤ length last.rules
 pub record Kept (m : Meaning) (a : Account) : Type 0 where
   pub few_rules : length a.rules ≤ max_rules
   pub few_pages : length a.pages ≤ max_pages
-  pub borne : All (PageBorne m) a.pages
-  pub fronts : All (Front a.rules) a.pages
-  pub longest : (before : List Page) (last : Page) → a.pages ≡ before ++ last ∷ [] → All (NoLonger last) a.pages
+  pub borne : AllByRecursion (PageBorne m) a.pages
+  pub fronts : AllByRecursion (Front a.rules) a.pages
+  pub longest : (before : List Page) (last : Page) → a.pages ≡ before ++ last ∷ [] → AllByRecursion (NoLonger last) a.pages
 
 -- one call leaves it so
 abbrev pub StepKept : Type 0

@@ -1,6 +1,6 @@
 -- Ranks bear a set exactly where the set is an answer set as published.
 use Rattle.std.proofs.Common.{◌≡◌, ℕ, zero, suc, ◌^◌, ◌<◌, Bool, true, false, cond, not, ◌⊎◌, ◌↔◌, List, [], ◌∷◌, map, filter, sym, refl, ◌∙◌, subst, inl, inr, ⊎_elim, le_trans, le_of_eq, le_refl, not-le_of_lt}
-use Rattle.std.specs.List.{AllByRecursion as All}
+use Rattle.std.specs.List.{AllByRecursion}
 use Rattle.std.proofs.lemmas.Bool.{cases_Bool, both_ways, and_parts, and_from, and_cases, and_right, eq-eqb, not-true, not-false, not_from_false, not_from_true}
 use Rattle.sets.specs.Sets.{has, ◌∈◌, ◌∉◌, ◌⊆◌, ◌∩◌, inside}
 use Rattle.banks.specs.Meaning.{Meaning, Always, Never}
@@ -65,16 +65,16 @@ pos_of m body = map (atom m) (filter (λ e. not e.negated) body)
 abbrev neg_of : Meaning → List Entry → List Atom
 neg_of m body = map (atom m) (filter (λ e. e.negated) body)
 
-pos_all : (m : Meaning) (Q : Atom → Type 0) (body : List Entry) → All Q (pos_of m body) → All (λ e. plain e ≡ true → Q (atom m e)) body
+pos_all : (m : Meaning) (Q : Atom → Type 0) (body : List Entry) → AllByRecursion Q (pos_of m body) → AllByRecursion (λ e. plain e ≡ true → Q (atom m e)) body
 pos_all m Q body h = all_of_kept plain (λ e. Q (atom m e)) body (all_of_map (atom m) Q (filter plain body) h)
 
-all_pos : (m : Meaning) (Q : Atom → Type 0) (body : List Entry) → All (λ e. plain e ≡ true → Q (atom m e)) body → All Q (pos_of m body)
+all_pos : (m : Meaning) (Q : Atom → Type 0) (body : List Entry) → AllByRecursion (λ e. plain e ≡ true → Q (atom m e)) body → AllByRecursion Q (pos_of m body)
 all_pos m Q body h = all_to_map (atom m) Q (filter plain body) (all_to_kept plain (λ e. Q (atom m e)) body h)
 
-neg_all : (m : Meaning) (Q : Atom → Type 0) (body : List Entry) → All Q (neg_of m body) → All (λ e. naf e ≡ true → Q (atom m e)) body
+neg_all : (m : Meaning) (Q : Atom → Type 0) (body : List Entry) → AllByRecursion Q (neg_of m body) → AllByRecursion (λ e. naf e ≡ true → Q (atom m e)) body
 neg_all m Q body h = all_of_kept naf (λ e. Q (atom m e)) body (all_of_map (atom m) Q (filter naf body) h)
 
-all_neg : (m : Meaning) (Q : Atom → Type 0) (body : List Entry) → All (λ e. naf e ≡ true → Q (atom m e)) body → All Q (neg_of m body)
+all_neg : (m : Meaning) (Q : Atom → Type 0) (body : List Entry) → AllByRecursion (λ e. naf e ≡ true → Q (atom m e)) body → AllByRecursion Q (neg_of m body)
 all_neg m Q body h = all_to_map (atom m) Q (filter naf body) (all_to_kept naf (λ e. Q (atom m e)) body h)
 
 pos_any : (m : Meaning) (Q : Atom → Type 0) (body : List Entry) → Any Q (pos_of m body) → Any (λ e. (plain e ≡ true) × Q (atom m e)) body
@@ -156,7 +156,7 @@ complement_follows m rules S M a s = (
 )
   where
     Q : Clause → Type 0
-    Q r = (r.head ≡ decision a) × All (Conditionally S M) r.pos
+    Q r = (r.head ≡ decision a) × AllByRecursion (Conditionally S M) r.pos
 
     forth : (r : Rule) → Q (co_clause (clause m r)) → Gives m complement S M a r
     forth r g =
@@ -182,7 +182,7 @@ complement_follows m rules S M a s = (
           (λ e c q. of_never m e S M s (neg_complement m S M e.condition e.negated c q)) r.body g.1))),
     )
 
-complement_model : (m : Meaning) (rules : List Rule) (M : ℕ) → Model (complement_of (program m rules)) M ↔ All (Keeps m M) rules
+complement_model : (m : Meaning) (rules : List Rule) (M : ℕ) → Model (complement_of (program m rules)) M ↔ AllByRecursion (Keeps m M) rules
 complement_model m rules M = (
   λ h. all_to (λ r. Satisfies M (co_clause (clause m r))) (Keeps m M) forth rules
       (all_of_map (clause m) (λ r. Satisfies M (co_clause r)) rules (all_of_map co_clause (Satisfies M) (program m rules) h)),
@@ -207,12 +207,12 @@ complement_model m rules M = (
 
 -- ---- the reduct of the program
 
-none_all : (M : ℕ) (As : List Atom) → none_met M As ≡ true → All (Fails M) As
+none_all : (M : ℕ) (As : List Atom) → none_met M As ≡ true → AllByRecursion (Fails M) As
 none_all M [] h = tt
 none_all M (A ∷ As) h =
     let k = and_parts (not (A.sol (M ∩ A.dom))) (none_met M As) h in (not-true (A.sol (M ∩ A.dom)) k.0, none_all M As k.1)
 
-all_none : (M : ℕ) (As : List Atom) → All (Fails M) As → none_met M As ≡ true
+all_none : (M : ℕ) (As : List Atom) → AllByRecursion (Fails M) As → none_met M As ≡ true
 all_none M [] h = refl
 all_none M (A ∷ As) h = and_from (not (A.sol (M ∩ A.dom))) (none_met M As) (not_from_false (A.sol (M ∩ A.dom)) h.0) (all_none M As h.1)
 
@@ -238,7 +238,7 @@ reduct_follows m rules S M a s = (
 )
   where
     Q : Clause → Type 0
-    Q r = (r.head ≡ decision a) × All (Conditionally S M) r.pos
+    Q r = (r.head ≡ decision a) × AllByRecursion (Conditionally S M) r.pos
 
     forth : (r : Rule) → (stays M (clause m r) ≡ true) × Q (bare (clause m r)) → Gives m reduct S M a r
     forth r g = (
@@ -260,7 +260,7 @@ reduct_follows m rules S M a s = (
       ),
     )
 
-reduct_model : (m : Meaning) (rules : List Rule) (M : ℕ) → Model (reduct_of (program m rules) M) M ↔ All (Keeps m M) rules
+reduct_model : (m : Meaning) (rules : List Rule) (M : ℕ) → Model (reduct_of (program m rules) M) M ↔ AllByRecursion (Keeps m M) rules
 reduct_model m rules M = (
   λ h. all_to (λ r. stays M (clause m r) ≡ true → Satisfies M (bare (clause m r))) (Keeps m M) forth rules
       (all_of_map (clause m) (λ r. stays M r ≡ true → Satisfies M (bare r)) rules
@@ -290,11 +290,11 @@ way_follows : (m : Meaning) (w : Way) (rules : List Rule) (S M a : ℕ) → S �
 way_follows m reduct rules S M a s = reduct_follows m rules S M a s
 way_follows m complement rules S M a s = complement_follows m rules S M a s
 
-way_model : (m : Meaning) (w : Way) (rules : List Rule) (M : ℕ) → Model (positive w (program m rules) M) M ↔ All (Keeps m M) rules
+way_model : (m : Meaning) (w : Way) (rules : List Rule) (M : ℕ) → Model (positive w (program m rules) M) M ↔ AllByRecursion (Keeps m M) rules
 way_model m reduct rules M = reduct_model m rules M
 way_model m complement rules M = complement_model m rules M
 
-module _ (m : Meaning) (w : Way) (rules : List Rule) (M : ℕ) (M< : M < 2 ^ 64) (kept : All (Keeps m M) rules) where
+module _ (m : Meaning) (w : Way) (rules : List Rule) (M : ℕ) (M< : M < 2 ^ 64) (kept : AllByRecursion (Keeps m M) rules) where
   abbrev P' : Program
   P' = positive w (program m rules) M
 
@@ -373,7 +373,7 @@ rounds_are m w rules M M< b = record {
     der' : ℕ → ℕ → Bool
     der' = derives m w rules M
 
-    kept : All (Keeps m M) rules
+    kept : AllByRecursion (Keeps m M) rules
     kept = b.1.kept
 
     at : (d : ℕ) → d ∈ M → rank (round_ranks (derives m w rules M)) d ≡ round_of (derives m w rules M) d

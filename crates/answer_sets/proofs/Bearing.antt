@@ -1,7 +1,7 @@
 -- Ranks bear M exactly where M is full of the rounds.
 use Rattle.std.proofs.Common.{◌≡◌, ℕ, zero, suc, ◌^◌, ◌<◌, ◌≤◌, Bool, true, false, not, eqb, List, length, refl, inl, inr, ⊎_elim, zero-le, le_trans, le_of_eq, le_refl, le_of_suc-le-suc, not-suc-le-zero, arith}
 use lib.ListN.{get_or-eq_default}
-use Rattle.std.specs.List.{AllByRecursion as All}
+use Rattle.std.specs.List.{AllByRecursion}
 use Rattle.std.proofs.lemmas.Bool.{cases_Bool, cases_lt, both_ways, and_parts, and_from, or_cases, or_left, or_right, eqb-true, eq-eqb, not-true, not_from_false}
 use Rattle.sets.specs.Sets.{has, ◌∈◌, ◌∉◌, ◌⊆◌, ◌∩◌}
 use Rattle.banks.specs.Meaning.{Meaning}
@@ -43,7 +43,7 @@ module _ (m : Meaning) (w : Way) (rules : List Rule) (M : ℕ) (M< : M < 2 ^ 64)
   abbrev der : ℕ → ℕ → Bool
   der = derives m w rules M
 
-  module _ (kept : All (Keeps m M) rules) where
+  module _ (kept : AllByRecursion (Keeps m M) rules) where
     pub full_of : (ranks : List ℕ) → Bears m w rules M ranks → M ⊆ round (derives m w rules M) 64
     full_of ranks b =
         core.full M M< der (derives_mono m w rules M M<) (derives_inside m w rules M M< kept) ranks
@@ -115,7 +115,7 @@ module _ (m : Meaning) (w : Way) (rules : List Rule) (M : ℕ) (M< : M < 2 ^ 64)
 -- ---- by complement a borne set is minimal among those that keep the rules
 
 module _ (m : Meaning) (rules : List Rule) (M N : ℕ) (ranks : List ℕ) (b : Bears m complement rules M ranks)
-    (keeps : All (Keeps m N) rules) (N⊆M : N ⊆ M) where
+    (keeps : AllByRecursion (Keeps m N) rules) (N⊆M : N ⊆ M) where
   climbs : (n d : ℕ) → d ∈ M → rank ranks d < n → d ∈ N
   climbs zero d h l = absurd (not-suc-le-zero l)
   climbs (suc n) d h l =

@@ -1,7 +1,7 @@
 -- What carries an entry, as a test; its monotony; and that what is carried holds.
 use Rattle.std.proofs.Common.{◌≡◌, ℕ, ◌^◌, ◌<◌, Bool, true, false, cond, not, List, refl, ap, ◌∙◌, subst, ⊎_elim, lt_of_le_of_lt}
 use lib.Bits.{and_le_l}
-use Rattle.std.specs.List.{AllByRecursion as All}
+use Rattle.std.specs.List.{AllByRecursion}
 use Rattle.std.proofs.lemmas.Bool.{both_ways, and_parts, and_from, eqb-true, eq-eqb, not-true, not_from_false}
 use Rattle.sets.specs.Sets.{◌∈◌, ◌⊆◌, ◌∩◌}
 use Rattle.banks.specs.Meaning.{Meaning}
@@ -70,7 +70,7 @@ heads_complete : (b : ℕ) (h : Head) → h ≡ decision b → heads b h ≡ tru
 heads_complete b h e = ap (heads b) e ∙ heads_self b
 
 -- a rule whose body holds at N and that N keeps has its head in N
-pub head_kept : (m : Meaning) (N b : ℕ) (r : Rule) → r.head ≡ decision b → All (λ e. holds m e N ≡ true) r.body → Keeps m N r → b ∈ N
+pub head_kept : (m : Meaning) (N b : ℕ) (r : Rule) → r.head ≡ decision b → AllByRecursion (λ e. holds m e N ≡ true) r.body → Keeps m N r → b ∈ N
 head_kept m N b r e h k = ⊎_elim
     (λ (i : HeadIn r.head N). subst (λ (x : Head). HeadIn x N) e i)
     (λ (i : Any (λ e. holds m e N ≡ false) r.body).
@@ -103,7 +103,7 @@ module _ (m : Meaning) (w : Way) (rules : List Rule) (M : ℕ) (M< : M < 2 ^ 64)
       (λ r g. (g.0, all_to (λ e. Carried m w e S M) (λ e. Carried m w e U M) (λ e c. by_mono m w e.condition e.negated S U M s c) r.body g.1))
       rules (derives_sound S b e))
 
-  pub derives_inside : All (Keeps m M) rules → (S b : ℕ) → S ⊆ M → derives m w rules M S b ≡ true → b ∈ M
+  pub derives_inside : AllByRecursion (Keeps m M) rules → (S b : ℕ) → S ⊆ M → derives m w rules M S b ≡ true → b ∈ M
   derives_inside kept S b s e =
       any_out (λ _. b ∈ M) (λ _ h. h) rules
       (any_all (Gives m w S M b) (Keeps m M) (λ _. b ∈ M)

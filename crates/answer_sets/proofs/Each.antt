@@ -1,15 +1,15 @@
 -- All and Any over a list, by tests, by maps and by filters.
 use Rattle.std.proofs.Common.{◌≡◌, ℕ, zero, suc, ◌<◌, Bool, true, false, cond, ◌⊎◌, List, [], ◌∷◌, ◌++◌, map, length, get_or, filter, refl, subst, inl, inr, ⊎_elim, le_of_suc-le-suc, not-suc-le-zero}
-use Rattle.std.specs.List.{AllByRecursion as All}
+use Rattle.std.specs.List.{AllByRecursion}
 use Rattle.std.proofs.lemmas.Bool.{both_ways, and_parts, and_from, or_cases, or_left, or_right}
 use Rattle.answer_sets.specs.Rules.{Any}
 use Rattle.answer_sets.specs.Tests.{allb, anyb}
 
-pub allb_all : {X : Type 0} (p : X → Bool) (P : X → Type 0) → ((x : X) → p x ≡ true → P x) → (xs : List X) → allb p xs ≡ true → All P xs
+pub allb_all : {X : Type 0} (p : X → Bool) (P : X → Type 0) → ((x : X) → p x ≡ true → P x) → (xs : List X) → allb p xs ≡ true → AllByRecursion P xs
 allb_all p P f [] h = tt
 allb_all p P f (x ∷ xs) h = let k = and_parts (p x) (allb p xs) h in (f x k.0, allb_all p P f xs k.1)
 
-pub all_allb : {X : Type 0} (p : X → Bool) (P : X → Type 0) → ((x : X) → P x → p x ≡ true) → (xs : List X) → All P xs → allb p xs ≡ true
+pub all_allb : {X : Type 0} (p : X → Bool) (P : X → Type 0) → ((x : X) → P x → p x ≡ true) → (xs : List X) → AllByRecursion P xs → allb p xs ≡ true
 all_allb p P f [] h = refl
 all_allb p P f (x ∷ xs) h = and_from (p x) (allb p xs) (f x h.0) (all_allb p P f xs h.1)
 
@@ -22,7 +22,7 @@ any_anyb p P f [] h = absurd h
 any_anyb p P f (x ∷ xs) (inl h) = or_left (p x) (anyb p xs) (f x h)
 any_anyb p P f (x ∷ xs) (inr h) = or_right (p x) (anyb p xs) (any_anyb p P f xs h)
 
-pub all_to : {X : Type 0} (P Q : X → Type 0) → ((x : X) → P x → Q x) → (xs : List X) → All P xs → All Q xs
+pub all_to : {X : Type 0} (P Q : X → Type 0) → ((x : X) → P x → Q x) → (xs : List X) → AllByRecursion P xs → AllByRecursion Q xs
 all_to P Q f [] h = tt
 all_to P Q f (x ∷ xs) h = (f x h.0, all_to P Q f xs h.1)
 
@@ -31,17 +31,17 @@ any_to P Q f [] h = h
 any_to P Q f (x ∷ xs) (inl h) = inl (f x h)
 any_to P Q f (x ∷ xs) (inr h) = inr (any_to P Q f xs h)
 
-pub all_zip : {X : Type 0} (P Q R : X → Type 0) → ((x : X) → P x → Q x → R x) → (xs : List X) → All P xs → All Q xs → All R xs
+pub all_zip : {X : Type 0} (P Q R : X → Type 0) → ((x : X) → P x → Q x → R x) → (xs : List X) → AllByRecursion P xs → AllByRecursion Q xs → AllByRecursion R xs
 all_zip P Q R f [] h k = tt
 all_zip P Q R f (x ∷ xs) h k = (f x h.0 k.0, all_zip P Q R f xs h.1 k.1)
 
 -- an element that is so, under what holds of all
-pub any_all : {X : Type 0} (P Q R : X → Type 0) → ((x : X) → P x → Q x → R x) → (xs : List X) → Any P xs → All Q xs → Any R xs
+pub any_all : {X : Type 0} (P Q R : X → Type 0) → ((x : X) → P x → Q x → R x) → (xs : List X) → Any P xs → AllByRecursion Q xs → Any R xs
 any_all P Q R f [] h k = h
 any_all P Q R f (x ∷ xs) (inl h) k = inl (f x h k.0)
 any_all P Q R f (x ∷ xs) (inr h) k = inr (any_all P Q R f xs h k.1)
 
-pub no_any : {X : Type 0} {A : Type 0} (P Q : X → Type 0) → ((x : X) → P x → Q x → ⊥) → (xs : List X) → Any P xs → All Q xs → A
+pub no_any : {X : Type 0} {A : Type 0} (P Q : X → Type 0) → ((x : X) → P x → Q x → ⊥) → (xs : List X) → Any P xs → AllByRecursion Q xs → A
 no_any P Q f [] h k = absurd h
 no_any P Q f (x ∷ xs) (inl h) k = absurd (f x h k.0)
 no_any P Q f (x ∷ xs) (inr h) k = no_any P Q f xs h k.1
@@ -52,15 +52,15 @@ any_out P f (x ∷ xs) (inl h) = f x h
 any_out P f (x ∷ xs) (inr h) = any_out P f xs h
 
 -- ---- joins
-pub all_join : {X : Type 0} (P : X → Type 0) (xs ys : List X) → All P xs → All P ys → All P (xs ++ ys)
+pub all_join : {X : Type 0} (P : X → Type 0) (xs ys : List X) → AllByRecursion P xs → AllByRecursion P ys → AllByRecursion P (xs ++ ys)
 all_join P [] ys h k = k
 all_join P (x ∷ xs) ys h k = (h.0, all_join P xs ys h.1 k)
 
-pub all_left : {X : Type 0} (P : X → Type 0) (xs ys : List X) → All P (xs ++ ys) → All P xs
+pub all_left : {X : Type 0} (P : X → Type 0) (xs ys : List X) → AllByRecursion P (xs ++ ys) → AllByRecursion P xs
 all_left P [] ys h = tt
 all_left P (x ∷ xs) ys h = (h.0, all_left P xs ys h.1)
 
-pub all_right : {X : Type 0} (P : X → Type 0) (xs ys : List X) → All P (xs ++ ys) → All P ys
+pub all_right : {X : Type 0} (P : X → Type 0) (xs ys : List X) → AllByRecursion P (xs ++ ys) → AllByRecursion P ys
 all_right P [] ys h = h
 all_right P (x ∷ xs) ys h = all_right P xs ys h.1
 
@@ -79,11 +79,11 @@ any_right P [] ys h = h
 any_right P (x ∷ xs) ys h = inr (any_right P xs ys h)
 
 -- ---- maps
-pub all_of_map : {X Y : Type 0} (f : X → Y) (P : Y → Type 0) (xs : List X) → All P (map f xs) → All (λ x. P (f x)) xs
+pub all_of_map : {X Y : Type 0} (f : X → Y) (P : Y → Type 0) (xs : List X) → AllByRecursion P (map f xs) → AllByRecursion (λ x. P (f x)) xs
 all_of_map f P [] h = tt
 all_of_map f P (x ∷ xs) h = (h.0, all_of_map f P xs h.1)
 
-pub all_to_map : {X Y : Type 0} (f : X → Y) (P : Y → Type 0) (xs : List X) → All (λ x. P (f x)) xs → All P (map f xs)
+pub all_to_map : {X Y : Type 0} (f : X → Y) (P : Y → Type 0) (xs : List X) → AllByRecursion (λ x. P (f x)) xs → AllByRecursion P (map f xs)
 all_to_map f P [] h = tt
 all_to_map f P (x ∷ xs) h = (h.0, all_to_map f P xs h.1)
 
@@ -99,11 +99,11 @@ any_to_map f P (x ∷ xs) (inr h) = inr (any_to_map f P xs h)
 
 -- ---- filters
 module _ {X : Type 0} (p : X → Bool) (P : X → Type 0) where
-  all_pick : (b : Bool) (x : X) (ys : List X) → All P (cond b (x ∷ ys) ys) → (b ≡ true → P x) × All P ys
+  all_pick : (b : Bool) (x : X) (ys : List X) → AllByRecursion P (cond b (x ∷ ys) ys) → (b ≡ true → P x) × AllByRecursion P ys
   all_pick true x ys h = (λ _. h.0, h.1)
   all_pick false x ys h = (λ e. absurd (both_ways false refl e), h)
 
-  all_put : (b : Bool) (x : X) (ys : List X) → (b ≡ true → P x) → All P ys → All P (cond b (x ∷ ys) ys)
+  all_put : (b : Bool) (x : X) (ys : List X) → (b ≡ true → P x) → AllByRecursion P ys → AllByRecursion P (cond b (x ∷ ys) ys)
   all_put true x ys h k = (h refl, k)
   all_put false x ys h k = k
 
@@ -118,11 +118,11 @@ module _ {X : Type 0} (p : X → Bool) (P : X → Type 0) where
   any_put false x ys (inl h) = absurd (both_ways false refl h.0)
   any_put false x ys (inr h) = h
 
-  pub all_of_kept : (xs : List X) → All P (filter p xs) → All (λ x. p x ≡ true → P x) xs
+  pub all_of_kept : (xs : List X) → AllByRecursion P (filter p xs) → AllByRecursion (λ x. p x ≡ true → P x) xs
   all_of_kept [] h = tt
   all_of_kept (x ∷ xs) h = let k = all_pick (p x) x (filter p xs) h in (k.0, all_of_kept xs k.1)
 
-  pub all_to_kept : (xs : List X) → All (λ x. p x ≡ true → P x) xs → All P (filter p xs)
+  pub all_to_kept : (xs : List X) → AllByRecursion (λ x. p x ≡ true → P x) xs → AllByRecursion P (filter p xs)
   all_to_kept [] h = tt
   all_to_kept (x ∷ xs) h = all_put (p x) x (filter p xs) h.0 (all_to_kept xs h.1)
 

@@ -1,6 +1,6 @@
 -- The two ways, where the conditions under a "not" are monotone.
 use Rattle.std.proofs.Common.{◌≡◌, ℕ, Bool, true, false, refl, ⊎_elim}
-use Rattle.std.specs.List.{AllByRecursion as All}
+use Rattle.std.specs.List.{AllByRecursion}
 use Rattle.std.proofs.lemmas.Bool.{cases_Bool, both_ways}
 use Rattle.sets.specs.Sets.{◌∩◌}
 use Rattle.banks.specs.Meaning.{Meaning}
@@ -26,7 +26,7 @@ ways_agree m rules M ranks mono = (
   λ b. record {
     ranked = b.ranked;
     kept = b.kept;
-    borne = λ d h. any_all (Gives m reduct (below M ranks d) M d) (λ r. All (λ e. e.negated ≡ true → Monotone m e.condition) r.body) (Gives m complement (below M ranks d) M d)
+    borne = λ d h. any_all (Gives m reduct (below M ranks d) M d) (λ r. AllByRecursion (λ e. e.negated ≡ true → Monotone m e.condition) r.body) (Gives m complement (below M ranks d) M d)
         (λ r g f. (
           g.0,
           all_zip (λ e. Carried m reduct e (below M ranks d) M) (λ e. e.negated ≡ true → Monotone m e.condition) (λ e. Carried m complement e (below M ranks d) M)

@@ -1,6 +1,6 @@
 -- The worked examples, computed.
 use Rattle.std.proofs.Common.{◌≡◌, ◌^◌, ◌<◌, Bool, true, false, not, ◌&&◌, ltb, refl}
-use Rattle.std.specs.List.{AllByRecursion as All}
+use Rattle.std.specs.List.{AllByRecursion}
 use Rattle.std.proofs.lemmas.Bool.{and_parts, both_ways, ltb-true, not-true}
 use Rattle.sets.specs.Sets.{has, collect}
 use Rattle.answer_sets.specs.Tests.{allb, all_between, derives, round, borneb}
@@ -27,7 +27,7 @@ checked : allb check examples ≡ true
 unfolding borneb round derives all_between collect has
 checked = refl
 
-pub worked : All Verdict examples
+pub worked : AllByRecursion Verdict examples
 worked =
     allb_all check Verdict
     (λ r h. let p = and_parts (ltb r.set (2 ^ 64)) (same r.answer (borneb r.conditions r.way r.rules r.set)) h in

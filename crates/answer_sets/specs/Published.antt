@@ -1,6 +1,6 @@
 -- Answer sets of logic programs with abstract constraint atoms, as the theory defines them.
 use Rattle.std.specs.Prelude.{◌≡◌, ℕ, zero, suc, ◌≤◌, Bool, true, false, not, ◌&&◌, ◌⊎◌, ◌↔◌, List, [], ◌∷◌, ◌++◌, map, filter}
-use Rattle.std.specs.List.{AllByRecursion as All}
+use Rattle.std.specs.List.{AllByRecursion}
 use Rattle.banks.specs.Meaning.{Meaning}
 use Rattle.sets.specs.Sets.{◌∈◌, ◌⊆◌, ◌∩◌, inside}
 use Rattle.answer_sets.specs.Rules.{Any, Head, HeadIn, CanGive, Entry, Rule, Way, reduct, complement}
@@ -32,7 +32,7 @@ abbrev pub Satisfies : ℕ → Clause → Type 0
 Satisfies S r = HeadIn r.head S ⊎ (Any (Fails S) r.pos ⊎ Any (λ A. S ⊨ A) r.neg)
 
 abbrev pub Model : Program → ℕ → Type 0
-Model P S = All (Satisfies S) P
+Model P S = AllByRecursion (Satisfies S) P
 
 -- S conditionally satisfies A with respect to M
 abbrev pub Conditionally : ℕ → ℕ → Atom → Type 0
@@ -40,7 +40,7 @@ Conditionally S M A = (S ⊨ A) × ((I : ℕ) → S ∩ A.dom ⊆ I → I ⊆ M 
 
 -- the operator of a positive program: a follows from S with respect to M
 abbrev pub Follows : Program → ℕ → ℕ → ℕ → Type 0
-Follows P S M a = Any (λ r. CanGive a M r.head × All (Conditionally S M) r.pos) P
+Follows P S M a = Any (λ r. CanGive a M r.head × AllByRecursion (Conditionally S M) r.pos) P
 
 -- R is the set of what follows from S
 abbrev pub Step : Program → ℕ → ℕ → ℕ → Type 0

@@ -1,6 +1,6 @@
 -- Rules over the conditions of a bank, and when ranks bear a set.
 use Rattle.std.specs.Prelude.{◌≡◌, ℕ, ◌<◌, ◌≤◌, Bool, true, false, cond, not, ◌&&◌, ◌⊎◌, List, [], ◌∷◌, length, nat_lt, slice_index}
-use Rattle.std.specs.List.{HoldsAt, AllByRecursion as All}
+use Rattle.std.specs.List.{HoldsAt, AllByRecursion}
 use Rattle.banks.specs.Meaning.{Meaning, Always, Never}
 use Rattle.sets.specs.Sets.{has, ◌∈◌, ◌∉◌, ◌⊆◌, ◌∩◌, collect}
 
@@ -64,7 +64,7 @@ CanGive b M h = h ≡ decision b
 
 -- the rule gives b over the span from L to M: it can, and each entry of its body is carried
 abbrev pub Gives : Meaning → Way → ℕ → ℕ → ℕ → Rule → Type 0
-Gives m w L M b r = CanGive b M r.head × All (λ e. Carried m w e L M) r.body
+Gives m w L M b r = CanGive b M r.head × AllByRecursion (λ e. Carried m w e L M) r.body
 
 -- the rank of decision d
 abbrev pub rank : List ℕ → ℕ → ℕ
@@ -83,7 +83,7 @@ pub record Ranked (M : ℕ) (ranks : List ℕ) : Type 0 where
 -- the ranks bear M: M keeps every rule, and some rule gives each of its decisions over the span from the lower-ranked ones to M
 pub record Bears (m : Meaning) (w : Way) (rules : List Rule) (M : ℕ) (ranks : List ℕ) : Type 0 where
   pub ranked : Ranked M ranks
-  pub kept : All (Keeps m M) rules
+  pub kept : AllByRecursion (Keeps m M) rules
   pub borne : (b : ℕ) → b ∈ M → Any (Gives m w (below M ranks b) M b) rules
 
 -- some ranks bear M

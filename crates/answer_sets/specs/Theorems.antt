@@ -1,6 +1,6 @@
 -- What ties bearing to the published definition, over every bank.
 use Rattle.std.specs.Prelude.{◌≡◌, ℕ, ◌^◌, ◌<◌, true, ◌↔◌, List, ◌≢◌}
-use Rattle.std.specs.List.{AllByRecursion as All}
+use Rattle.std.specs.List.{AllByRecursion}
 use Rattle.banks.specs.Meaning.{Meaning}
 use Rattle.sets.specs.Sets.{◌∈◌, ◌∉◌, ◌⊆◌}
 use Rattle.answer_sets.specs.Rules.{Any, Way, reduct, complement, Rule, CanGive, Keeps, Bears, Borne, Monotone}
@@ -20,7 +20,7 @@ RoundsBear = (m : Meaning) (w : Way) (rules : List Rule) (M : ℕ) → M < 2 ^ 6
 abbrev pub Minimal : Type 0
 Minimal =
     (m : Meaning) (rules : List Rule) (M N : ℕ) → M < 2 ^ 64 → N < 2 ^ 64 → Borne m complement rules M
-    → All (Keeps m N) rules → (N ≢ M) → (d : ℕ) × (d ∈ N) × (d ∉ M)
+    → AllByRecursion (Keeps m N) rules → (N ≢ M) → (d : ℕ) × (d ∈ N) × (d ∉ M)
 
 -- some rule can give each decision of a borne set
 abbrev pub Given : Type 0
@@ -33,11 +33,11 @@ ComplementReduct = (m : Meaning) (rules : List Rule) (M : ℕ) (ranks : List ℕ
 -- the two ways bear alike where every condition under a "not" is monotone
 abbrev pub WaysAgree : Type 0
 WaysAgree =
-    (m : Meaning) (rules : List Rule) (M : ℕ) (ranks : List ℕ) → All (λ r. All (λ e. e.negated ≡ true → Monotone m e.condition) r.body) rules
+    (m : Meaning) (rules : List Rule) (M : ℕ) (ranks : List ℕ) → AllByRecursion (λ r. AllByRecursion (λ e. e.negated ≡ true → Monotone m e.condition) r.body) rules
     → Bears m complement rules M ranks ↔ Bears m reduct rules M ranks
 
 -- where M keeps the rules, each set of the operator exists, lies inside M, and there is just one
 abbrev pub StagesExist : Type 0
 StagesExist =
-    (m : Meaning) (w : Way) (rules : List Rule) (M : ℕ) → M < 2 ^ 64 → All (Keeps m M) rules → (i : ℕ)
+    (m : Meaning) (w : Way) (rules : List Rule) (M : ℕ) → M < 2 ^ 64 → AllByRecursion (Keeps m M) rules → (i : ℕ)
     → (R : ℕ) × Stage (positive w (program m rules) M) M i R × (R ⊆ M) × ((Q : ℕ) → Stage (positive w (program m rules) M) M i Q → Q ≡ R)

@@ -1,7 +1,7 @@
 // When ranks bear a set, the published definition of answer sets, and the theorems that tie the two together.
 #![tactic(auto)]
 
-ghost use Rattle.std.specs.List.{AllByRecursion as All};
+ghost use Rattle.std.specs.List.{AllByRecursion};
 ghost use Rattle.answer_sets.specs.Examples.{Verdict, examples};
 ghost use Rattle.answer_sets.specs.Theorems.{BorneIsAnswerSet, RoundsBear, Minimal, Given, ComplementReduct, WaysAgree, StagesExist};
 
@@ -18,5 +18,5 @@ pub fn bearing_laws()
 
 // Worked examples of the theory.
 pub fn worked_examples()
-    ensures { All Verdict examples }
+    ensures { AllByRecursion Verdict examples }
 {}

@@ -1,6 +1,6 @@
 -- The lines of a book's text are its frames.
 use Rattle.std.proofs.Common.{◌≡◌, ℕ, ◌+◌, ◌%◌, ◌^◌, ◌<◌, ◌≤◌, Bool, true, false, cond, eqb, ◌⊎◌, List, [], ◌∷◌, map, length, filter, refl, ◌∙◌, ⊎_elim, arith, length-append}
-use Rattle.std.specs.List.{AllByRecursion as All}
+use Rattle.std.specs.List.{AllByRecursion}
 use Rattle.std.proofs.ByRecursion.{All-append, All-map}
 use Rattle.std.proofs.lemmas.List.{length-map, get_or_past}
 use Rattle.std.proofs.lemmas.Bool.{cases_lt, cases_Bool}
@@ -26,7 +26,7 @@ record Fits (f : Frame) : Type 0 where
   few : length (spelled f) ≤ 74
   small : Bytes (spelled f)
 
-reads : (frames : List Frame) → All Fits frames → Reads (lines frames) frames
+reads : (frames : List Frame) → AllByRecursion Fits frames → Reads (lines frames) frames
 reads [] h = refl
 reads (f ∷ frames) h = (h.0.fit, (lines frames, record { some = h.0.some; few = h.0.few; small = h.0.small; spells = refl }, reads frames h.1))
 
@@ -91,28 +91,28 @@ page_fits rules p f =
       small = (omega arith, (way_small p.way, bytes_append (in_eight s) ranks (eight_small s f.small) (ranks_small p.ranks (decisions s) (rank_small s p.ranks f.ranked))));
     }
 
-kept_one : {X : Type 0} (P : X → Type 0) (t : Bool) (x : X) (xs : List X) → P x → All P xs → All P (cond t (x ∷ xs) xs)
+kept_one : {X : Type 0} (P : X → Type 0) (t : Bool) (x : X) (xs : List X) → P x → AllByRecursion P xs → AllByRecursion P (cond t (x ∷ xs) xs)
 kept_one P true x xs h a = (h, a)
 kept_one P false x xs h a = a
 
-all_kept : {X : Type 0} (P : X → Type 0) (test : X → Bool) (xs : List X) → All P xs → All P (filter test xs)
+all_kept : {X : Type 0} (P : X → Type 0) (test : X → Bool) (xs : List X) → AllByRecursion P xs → AllByRecursion P (filter test xs)
 all_kept P test [] h = tt
 all_kept P test (x ∷ xs) h = kept_one P (test x) x (filter test xs) h.0 (all_kept P test xs h.1)
 
-pages_fit : (k : ℕ) (pages : List Page) → All (λ p. Fits (page_frame p)) pages → All Fits (map page_frame (resting k pages))
+pages_fit : (k : ℕ) (pages : List Page) → AllByRecursion (λ p. Fits (page_frame p)) pages → AllByRecursion Fits (map page_frame (resting k pages))
 pages_fit k pages h = All-map Fits page_frame (resting k pages) (all_kept (λ p. Fits (page_frame p)) (λ p. eqb (length p.rules) k) pages h)
 
-inner_fits : (k : ℕ) (rules : List Rule) (pages : List Page) → All RuleFormed rules → All (λ p. Fits (page_frame p)) pages → All Fits (inner k rules pages)
+inner_fits : (k : ℕ) (rules : List Rule) (pages : List Page) → AllByRecursion RuleFormed rules → AllByRecursion (λ p. Fits (page_frame p)) pages → AllByRecursion Fits (inner k rules pages)
 unfolding inner
 inner_fits k [] pages h g = pages_fit k pages g
 inner_fits k (r ∷ rules) pages h g =
     All-append Fits (map page_frame (resting k pages)) (rule_frame r ∷ inner (k + 1) rules pages) (pages_fit k pages g) (rule_fits r h.0, inner_fits (k + 1) rules pages h.1 g)
 
-all_pages_fit : (rules : List Rule) (pages : List Page) → All (PageFormed rules) pages → All (λ p. Fits (page_frame p)) pages
+all_pages_fit : (rules : List Rule) (pages : List Page) → AllByRecursion (PageFormed rules) pages → AllByRecursion (λ p. Fits (page_frame p)) pages
 all_pages_fit rules [] h = tt
 all_pages_fit rules (p ∷ pages) h = (page_fits rules p h.0, all_pages_fit rules pages h.1)
 
-frames_fit : (count : ℕ) (a : Account) → Formed count a → All Fits (frames_of count a)
+frames_fit : (count : ℕ) (a : Account) → Formed count a → AllByRecursion Fits (frames_of count a)
 unfolding frames_of
 frames_fit count a f =
     let r = f.few_rules in

@@ -1,6 +1,6 @@
 -- A text is that of at most one book.
 use Rattle.std.proofs.Common.{◌≡◌, ℕ, ◌+◌, ◌<◌, ◌≤◌, Bool, true, false, cond, eqb, ◌⊎◌, List, [], ◌∷◌, ◌++◌, map, length, get_or, drop, sym, refl, ap, ◌∙◌, subst, ⊎_elim, append-nil, arith, length-append}
-use Rattle.std.specs.List.{AllByRecursion as All}
+use Rattle.std.specs.List.{AllByRecursion}
 use Rattle.std.proofs.lemmas.List.{length-take, same_from_push}
 use Rattle.std.proofs.lemmas.Bool.{cases_lt, cases_order, eq-eqb, ne_eqb, eqb-true}
 use Rattle.answer_sets.specs.Rules.{Rule}
@@ -100,7 +100,7 @@ inner_same k (r ∷ rs) (s ∷ ss) ps qs e =
 
 -- ---- from frames back
 
-map_same : {X Y : Type 0} (f : X → Y) (d : Y) (P : X → Type 0) → ((x y : X) → P x → P y → f x ≡ f y → x ≡ y) → (xs ys : List X) → All P xs → All P ys → map f xs ≡ map f ys → xs ≡ ys
+map_same : {X Y : Type 0} (f : X → Y) (d : Y) (P : X → Type 0) → ((x y : X) → P x → P y → f x ≡ f y → x ≡ y) → (xs ys : List X) → AllByRecursion P xs → AllByRecursion P ys → map f xs ≡ map f ys → xs ≡ ys
 map_same f d P same [] [] p q e = refl
 map_same f d P same [] (y ∷ ys) p q e = let n = ap length e in absurd (omega arith)
 map_same f d P same (x ∷ xs) [] p q e = let n = ap length e in absurd (omega arith)
@@ -115,23 +115,23 @@ count p = length p.rules
 OnExactly : List Rule → ℕ → Page → Type 0
 OnExactly rules k p = PageFormed rules p × (count p ≡ k)
 
-rest_one : (rules : List Rule) (k : ℕ) (p : Page) (ps : List Page) (t : Bool) → eqb (length p.rules) k ≡ t → PageFormed rules p → All (OnExactly rules k) ps →
-    All (OnExactly rules k) (cond t (p ∷ ps) ps)
+rest_one : (rules : List Rule) (k : ℕ) (p : Page) (ps : List Page) (t : Bool) → eqb (length p.rules) k ≡ t → PageFormed rules p → AllByRecursion (OnExactly rules k) ps →
+    AllByRecursion (OnExactly rules k) (cond t (p ∷ ps) ps)
 unfolding OnExactly count
 rest_one rules k p ps true e f h = ((f, eqb-true (length p.rules) k e), h)
 rest_one rules k p ps false e f h = h
 
-all_resting : (rules : List Rule) (k : ℕ) (ps : List Page) → All (PageFormed rules) ps → All (OnExactly rules k) (resting k ps)
+all_resting : (rules : List Rule) (k : ℕ) (ps : List Page) → AllByRecursion (PageFormed rules) ps → AllByRecursion (OnExactly rules k) (resting k ps)
 all_resting rules k [] h = tt
 all_resting rules k (p ∷ ps) h = rest_one rules k p (resting k ps) (eqb (length p.rules) k) refl h.0 (all_resting rules k ps h.1)
 
-resting_same : (rules : List Rule) (k : ℕ) (ps qs : List Page) → All (PageFormed rules) ps → All (PageFormed rules) qs → On k ps ≡ On k qs → resting k ps ≡ resting k qs
+resting_same : (rules : List Rule) (k : ℕ) (ps qs : List Page) → AllByRecursion (PageFormed rules) ps → AllByRecursion (PageFormed rules) qs → On k ps ≡ On k qs → resting k ps ≡ resting k qs
 unfolding On OnExactly count
 resting_same rules k ps qs f g e =
     map_same page_frame (a_header 0) (OnExactly rules k) (λ p q m n s. page_same rules k p q m.0 n.0 m.1 n.1 s) (resting k ps) (resting k qs) (all_resting rules k ps f) (all_resting rules k qs g) e
 
 -- no page rests on more rules than there are
-no_more : (rules : List Rule) (k : ℕ) (ps : List Page) → length rules < k → All (PageFormed rules) ps → resting k ps ≡ []
+no_more : (rules : List Rule) (k : ℕ) (ps : List Page) → length rules < k → AllByRecursion (PageFormed rules) ps → resting k ps ≡ []
 no_more rules k [] l h = refl
 no_more rules k (p ∷ ps) l h =
     let n = ap length h.0.front ∙ length-take (length p.rules) rules in
@@ -143,18 +143,18 @@ no_more rules k (p ∷ ps) l h =
 here : (p : Page) (ps : List Page) → resting (length p.rules) (p ∷ ps) ≡ p ∷ resting (length p.rules) ps
 here p ps = ap (λ t. cond t (p ∷ resting (length p.rules) ps) (resting (length p.rules) ps)) (eq-eqb (length p.rules) (length p.rules) refl)
 
-none_below : (k : ℕ) (ps : List Page) → All (λ q. k < length q.rules) ps → resting k ps ≡ []
+none_below : (k : ℕ) (ps : List Page) → AllByRecursion (λ q. k < length q.rules) ps → resting k ps ≡ []
 none_below k [] h = refl
 none_below k (p ∷ ps) h =
     let l = h.0 in
     let other : eqb (length p.rules) k ≡ false = ne_eqb (length p.rules) k (λ e. omega arith) in
     ap (λ t. cond t (p ∷ resting k ps) (resting k ps)) other ∙ none_below k ps h.1
 
-all_above : (k n : ℕ) (ps : List Page) → k < n → All (λ q. n ≤ length q.rules) ps → All (λ q. k < length q.rules) ps
+all_above : (k n : ℕ) (ps : List Page) → k < n → AllByRecursion (λ q. n ≤ length q.rules) ps → AllByRecursion (λ q. k < length q.rules) ps
 all_above k n [] l h = tt
 all_above k n (p ∷ ps) l h = let m = h.0 in (omega arith, all_above k n ps l h.1)
 
-not_first : (p q : Page) (ps qs : List Page) → length p.rules < length q.rules → All (λ x. length q.rules ≤ length x.rules) qs →
+not_first : (p q : Page) (ps qs : List Page) → length p.rules < length q.rules → AllByRecursion (λ x. length q.rules ≤ length x.rules) qs →
     resting (length p.rules) (p ∷ ps) ≡ resting (length p.rules) (q ∷ qs) → ⊥
 not_first p q ps qs l r e =
     let k = length p.rules in
@@ -192,7 +192,7 @@ frames_parts c d a b e =
           (ap (λ l. drop 1 l) e)).0,
     )
 
-pages_same : (rules others : List Rule) (ps qs : List Page) → All (PageFormed rules) ps → All (PageFormed rules) qs → Rising ps → Rising qs → Agree 0 rules others ps qs → ps ≡ qs
+pages_same : (rules others : List Rule) (ps qs : List Page) → AllByRecursion (PageFormed rules) ps → AllByRecursion (PageFormed rules) qs → Rising ps → Rising qs → Agree 0 rules others ps qs → ps ≡ qs
 pages_same rules others ps qs f g r s agree = rising_same ps qs r s (λ k. ⊎_elim
     (λ (less : length rules < k). no_more rules k ps less f ∙ sym (no_more rules k qs less g))
     (λ (most : k ≤ length rules). resting_same rules k ps qs f g (agree.pages k (omega arith) (omega arith)))
@@ -204,6 +204,6 @@ one_book c d a b f g e =
     let parts = frames_parts c d a b (lines_same (frames_of c a) (frames_of d b) e) in
     let agree = inner_same 0 a.rules b.rules a.pages b.pages parts.1 in
     let rules : a.rules ≡ b.rules = map_same rule_frame (a_header 0) RuleFormed rule_same a.rules b.rules f.rules g.rules agree.rules in
-    let pages = pages_same a.rules b.rules a.pages b.pages f.pages (subst (λ rs. All (PageFormed rs) b.pages) (sym rules) g.pages) f.rising g.rising agree in
+    let pages = pages_same a.rules b.rules a.pages b.pages f.pages (subst (λ rs. AllByRecursion (PageFormed rs) b.pages) (sym rules) g.pages) f.rising g.rising agree in
     let made : List Rule → List Page → Account = λ rs ps. record { rules = rs; pages = ps } in
     (parts.0, ap (λ rs. made rs a.pages) rules ∙ ap (made b.rules) pages)

@@ -1,6 +1,6 @@
 -- Every account that calls lead to is that of a book that can be printed and known by its text.
 use Rattle.std.proofs.Common.{◌≡◌, ℕ, ◌^◌, ◌<◌, ◌≤◌, Bool, true, false, cond, eqb, ◌⊎◌, List, [], ◌∷◌, ◌++◌, map, length, sym, refl, ap, subst, inl, inr, ⊎_elim, arith}
-use Rattle.std.specs.List.{AllByRecursion as All}
+use Rattle.std.specs.List.{AllByRecursion}
 use Rattle.std.proofs.ByRecursion.{All-push, All-weaker}
 use Rattle.std.proofs.lemmas.List.{length-map, get_or_past}
 use Rattle.std.proofs.lemmas.Bool.{cases_lt, cases_eq, eqb-false}
@@ -25,7 +25,7 @@ head_by true h e n = tt
 head_by false h e (inl l) = l
 head_by false h e (inr s) = absurd (eqb-false h 255 e s)
 
-conditions_formed : (body : List ℕ) → All (λ e. e.condition < 32768) (map entry_named body)
+conditions_formed : (body : List ℕ) → AllByRecursion (λ e. e.condition < 32768) (map entry_named body)
 conditions_formed [] = tt
 conditions_formed (n ∷ body) = (omega arith, conditions_formed body)
 
@@ -42,7 +42,7 @@ rule_formed h body n l =
 
 -- ---- pages
 
-rising_push : (ps : List Page) (p : Page) → Rising ps → All (λ q. length q.rules ≤ length p.rules) ps → Rising (ps ++ p ∷ [])
+rising_push : (ps : List Page) (p : Page) → Rising ps → AllByRecursion (λ q. length q.rules ≤ length p.rules) ps → Rising (ps ++ p ∷ [])
 rising_push [] p r a = (tt, tt)
 rising_push (q ∷ ps) p r a = (All-push (λ x. length q.rules ≤ length x.rules) ps p r.0 a.0, rising_push ps p r.1 a.1)
 
@@ -62,14 +62,14 @@ page_formed m rules p b f = record { small = set_small p.«set» p.ranks b.ranke
 
 -- what calls keep besides
 record Grown (a : Account) : Type 0 where
-  rules : All RuleFormed a.rules
+  rules : AllByRecursion RuleFormed a.rules
   rising : Rising a.pages
 
 page_added : (m : Meaning) (a z : Account) (p : Page) → Kept m a → Grown a → z.rules ≡ a.rules → p.rules ≡ a.rules → z.pages ≡ a.pages ++ p ∷ [] → Grown z
 page_added m a z p k g same on more =
     let n = ap length on in
     record {
-      rules = subst (All RuleFormed) (sym same) g.rules;
+      rules = subst (AllByRecursion RuleFormed) (sym same) g.rules;
       rising = subst Rising (sym more) (rising_push a.pages p g.rising
           (All-weaker (Front a.rules) (λ q. length q.rules ≤ length p.rules) (λ q f. let l = front_length a.rules q f in omega arith) a.pages k.fronts));
     }
@@ -81,12 +81,12 @@ step_grown m a (enter h body) (accepted n) z k g (free, (e, more, same)) =
     let named = names h (λ not. free 11 [] (inl (refl, refl, not))) in
     let short : length body ≤ max_body = ⊎_elim (λ (l : max_body < length body). absurd (free 12 [] (inr (inl (refl, refl, l))))) (λ l. l) (cases_lt max_body (length body)) in
     record {
-      rules = subst (All RuleFormed) (sym more) (All-push RuleFormed a.rules (rule_named h body) g.rules (rule_formed h body named short));
+      rules = subst (AllByRecursion RuleFormed) (sym more) (All-push RuleFormed a.rules (rule_named h body) g.rules (rule_formed h body named short));
       rising = subst Rising (sym same) g.rising;
     }
 step_grown m a withdraw (accepted n) z k g (free, ((last, less), e, same)) =
     record {
-      rules = all_left RuleFormed z.rules (last ∷ []) (subst (All RuleFormed) less g.rules);
+      rules = all_left RuleFormed z.rules (last ∷ []) (subst (AllByRecursion RuleFormed) less g.rules);
       rising = subst Rising (sym same) g.rising;
     }
 step_grown m a (file w M) (accepted n) z k g (free, (e, (ranks, p, (same, more)))) = page_added m a z (record { way = w; «set» = M; ranks = ranks; rules = a.rules }) k g same refl more

@@ -1,6 +1,6 @@
 -- Rules and pages are known by their frames.
 use Rattle.std.proofs.Common.{◌≡◌, ℕ, ◌+◌, ◌%◌, ◌^◌, ◌<◌, Bool, true, false, cond, eqb, ◌⊎◌, List, [], ◌∷◌, map, length, get_or, take, drop, sym, refl, ap, ◌∙◌, subst, ⊎_elim, arith}
-use Rattle.std.specs.List.{AllByRecursion as All}
+use Rattle.std.specs.List.{AllByRecursion}
 use Rattle.std.proofs.lemmas.List.{ext_get_or}
 use Rattle.std.proofs.lemmas.Bool.{cases_Bool, eqb-true, or_cases}
 use Rattle.sets.specs.Sets.{has}
@@ -33,7 +33,7 @@ entry_same d e k l s =
     let made : ℕ → Bool → Entry = λ c n. record { condition = c; negated = n } in
     ap (λ c. made c d.negated) both.0 ∙ ap (made e.condition) both.1
 
-body_same : (bs cs : List Entry) → All (λ e. e.condition < 32768) bs → All (λ e. e.condition < 32768) cs → body_bytes bs ≡ body_bytes cs → bs ≡ cs
+body_same : (bs cs : List Entry) → AllByRecursion (λ e. e.condition < 32768) bs → AllByRecursion (λ e. e.condition < 32768) cs → body_bytes bs ≡ body_bytes cs → bs ≡ cs
 body_same [] [] k l e = refl
 body_same [] (c ∷ cs) k l e = let n = ap length e in absurd (omega arith)
 body_same (b ∷ bs) [] k l e = let n = ap length e in absurd (omega arith)

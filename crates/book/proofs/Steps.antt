@@ -1,6 +1,6 @@
 -- Which refusals fit a call, once some are ruled out.
 use Rattle.std.proofs.Common.{◌≡◌, ℕ, ◌+◌, ◌<◌, ◌≤◌, List, [], ◌∷◌, ◌++◌, length, get_or, take, sym, refl, ap, ◌∙◌, inl, inr, arith}
-use Rattle.std.specs.List.{AllByRecursion as All}
+use Rattle.std.specs.List.{AllByRecursion}
 use Rattle.std.proofs.lemmas.List.{take_all, take_more, length-take-le}
 use Rattle.banks.specs.Meaning.{Meaning}
 use Rattle.answer_sets.specs.Rules.{Way, Rule, no_head, Keeps, LowestBroken, Ranked, Bears, Borne}
@@ -104,7 +104,7 @@ module _ (m : Meaning) (a : Account) (M : ℕ) where
         least k others (inr (e, t, g)) = let l = low n told f.0 in omega arith
 
     module _ (free : length a.pages < max_pages) where
-      pub file_unborne : All (Keeps m M) a.rules → (Borne m w a.rules M → ⊥) → FitsFirst m a (file w M) 24 []
+      pub file_unborne : AllByRecursion (Keeps m M) a.rules → (Borne m w a.rules M → ⊥) → FitsFirst m a (file w M) 24 []
       file_unborne kept fails = (inr (refl, refl, fails), least)
         where
           least : (k : ℕ) (others : List ℕ) → Fits m a (file w M) k others → 24 ≤ k
@@ -133,7 +133,7 @@ module _ (m : Meaning) (a : Account) (M : ℕ) where
           least k others (inr (inr (e, t, g))) = let l = low n told f.0 in omega arith
 
       module _ (free : length a.pages < max_pages) where
-        pub lodge_unborne : Ranked M ranks → All (Keeps m M) a.rules → (Bears m w a.rules M ranks → ⊥) → FitsFirst m a (lodge w M ranks) 24 []
+        pub lodge_unborne : Ranked M ranks → AllByRecursion (Keeps m M) a.rules → (Bears m w a.rules M ranks → ⊥) → FitsFirst m a (lodge w M ranks) 24 []
         lodge_unborne r kept fails = (inr (inr (refl, refl, fails)), least)
           where
             least : (k : ℕ) (others : List ℕ) → Fits m a (lodge w M ranks) k others → 24 ≤ k

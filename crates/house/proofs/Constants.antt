@@ -3,7 +3,7 @@ use Rattle.std.proofs.Common.{◌≡◌, ℕ, zero, suc, ◌<◌, ◌≤◌, Boo
 use mathlib.Core.Path.{fun_ext}
 use lib.Bits.{bit_and, and_le_r}
 use lib.Count.{ones}
-use Rattle.std.specs.List.{AllByRecursion as All}
+use Rattle.std.specs.List.{AllByRecursion}
 use Rattle.std.proofs.lemmas.Bool.{ne_eqb, and_left, or_from}
 use Rattle.banks.specs.Beside.{beside, at_number, number_past}
 use Rattle.banks.specs.Meaning.{Meaning}
@@ -110,7 +110,7 @@ outside n d h =
     ne_eqb (bit_and x d) x (λ e. let l = and_le_r x d in let m : 8 ≤ x = omega arith in omega arith)
 
 -- and stands in no list of smaller numbers
-far : (x : ℕ) (xs : List ℕ) → All (λ y. y < 8) xs → 8 ≤ x → member x xs ≡ false
+far : (x : ℕ) (xs : List ℕ) → AllByRecursion (λ y. y < 8) xs → 8 ≤ x → member x xs ≡ false
 far x [] a h = refl
 far x (y ∷ ys) a h = or_from (eqb y x) (member x ys) (ne_eqb y x (λ e. let l = a.0 in omega arith)) (far x ys a.1 h)
 

@@ -1,6 +1,6 @@
 -- Conditions and rules at one set.
 use Rattle.std.proofs.Common.{◌≡◌, ℕ, Bool, true, false, ◌⊎◌, List, [], ◌∷◌, Decides, sym, ap, ◌∙◌, subst, inl, inr, ⊎_elim}
-use Rattle.std.specs.List.{AllByRecursion as All}
+use Rattle.std.specs.List.{AllByRecursion}
 use Rattle.std.proofs.lemmas.Bool.{both_ways, cases_Bool}
 use Rattle.banks.specs.Meaning.{Meaning, Always}
 use Rattle.sets.specs.Sets.{◌⊆◌, ◌∩◌, Between}
@@ -26,17 +26,17 @@ module _ (m : Meaning) (k M l u : ℕ) (is-l : l ≡ M ∩ M) (is-u : u ≡ M) w
 
 -- ---- a rule whose head is not in the set
 
-all_or_any : {X : Type 0} (p : X → Bool) (xs : List X) → All (λ x. p x ≡ true) xs ⊎ Any (λ x. p x ≡ false) xs
+all_or_any : {X : Type 0} (p : X → Bool) (xs : List X) → AllByRecursion (λ x. p x ≡ true) xs ⊎ Any (λ x. p x ≡ false) xs
 all_or_any p [] = inl tt
 all_or_any p (x ∷ xs) = ⊎_elim
     (λ (h : p x ≡ true). ⊎_elim (λ k. inl (h, k)) (λ k. inr (inr k)) (all_or_any p xs))
     (λ (h : p x ≡ false). inr (inl h))
     (cases_Bool (p x))
 
-pub keeps_not : (m : Meaning) (M : ℕ) (r : Rule) (t : Bool) → (HeadIn r.head M → ⊥) → Decides t (All (λ e. holds m e M ≡ true) r.body → ⊥) → Decides t (Keeps m M r)
+pub keeps_not : (m : Meaning) (M : ℕ) (r : Rule) (t : Bool) → (HeadIn r.head M → ⊥) → Decides t (AllByRecursion (λ e. holds m e M ≡ true) r.body → ⊥) → Decides t (Keeps m M r)
 keeps_not m M r t out d = (
   (λ e. ⊎_elim
-      (λ (h : All (λ e. holds m e M ≡ true) r.body). absurd (d.0 e h))
+      (λ (h : AllByRecursion (λ e. holds m e M ≡ true) r.body). absurd (d.0 e h))
       (λ (h : Any (λ e. holds m e M ≡ false) r.body). inr h)
       (all_or_any (λ e. holds m e M) r.body)),
   ⊎_elim (λ h. absurd (out h))

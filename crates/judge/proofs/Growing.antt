@@ -1,6 +1,6 @@
 -- One round: a set that grows by what the rules give.
 use Rattle.std.proofs.Common.{◌≡◌, ℕ, ◌+◌, ◌<◌, ◌⊎◌, List, [], ◌∷◌, ◌++◌, map, length, get_or, take, sym, ap, ◌∙◌, subst, inl, inr, ⊎_elim}
-use Rattle.std.specs.List.{AllByRecursion as All}
+use Rattle.std.specs.List.{AllByRecursion}
 use Rattle.std.proofs.lemmas.List.{take_more, map-append}
 use Rattle.std.proofs.lemmas.Bool.{eqb-true, eq-eqb}
 use Rattle.banks.specs.Meaning.{Meaning}
@@ -17,10 +17,10 @@ module _ (m : Meaning) (w : Way) (lo up : ℕ) (r : Rule) (out d : ℕ) (is-head
   pub grown_has : d ∈ out → Grown m w lo up r out out
   grown_has h e = ((λ i. inl i), ⊎_elim (λ i. i) (λ g. subst (λ (x : ℕ). x ∈ out) (same_head d e r is-head g.0) h))
 
-  pub grown_not : (All (λ x. Carried m w x lo up) r.body → ⊥) → Grown m w lo up r out out
+  pub grown_not : (AllByRecursion (λ x. Carried m w x lo up) r.body → ⊥) → Grown m w lo up r out out
   grown_not n e = ((λ i. inl i), ⊎_elim (λ i. i) (λ g. absurd (n g.1)))
 
-  pub grown_with : (s : ℕ) → s ≡ out ∪ single d → All (λ x. Carried m w x lo up) r.body → Grown m w lo up r out s
+  pub grown_with : (s : ℕ) → s ≡ out ∪ single d → AllByRecursion (λ x. Carried m w x lo up) r.body → Grown m w lo up r out s
   grown_with s is a e = (
     (λ i. ⊎_elim (λ (h : e ∈ out). inl h)
         (λ (h : e ∈ single d). inr (is-head ∙ ap decision (sym (eqb-true e d (sym (has_single d e) ∙ h))), a))

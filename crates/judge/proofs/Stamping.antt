@@ -2,7 +2,7 @@
 use Rattle.std.proofs.Common.{◌≡◌, ℕ, suc, ◌+◌, ◌^◌, ◌<◌, ◌≤◌, Bool, true, cond, ◌&&◌, eqb, List, length, get_or, sym, refl, ap, ◌∙◌, subst, inl, inr, ⊎_elim, le_refl, eq-or-lt_of_le, arith}
 use native.Mathlib.Decide.{le_ind}
 use lib.Arith.{le-zero}
-use Rattle.std.specs.List.{AllByRecursion as All}
+use Rattle.std.specs.List.{AllByRecursion}
 use Rattle.std.proofs.lemmas.Bool.{both_ways, cases_Bool, cases_lt, and_from, and_left, and_right, cond-true, cond-false, eq-eqb, ne_eqb}
 use Rattle.banks.specs.Meaning.{Meaning}
 use Rattle.sets.specs.Sets.{has, ◌∈◌, ◌∉◌, ◌⊆◌, ◌∩◌, collect}
@@ -59,7 +59,7 @@ stamped_last der i d v l e (inr s) = let k = s.0 in inr (omega arith, s.1, s.2)
 
 -- ---- one pass over the rules is one round
 
-module _ (m : Meaning) (w : Way) (rules : List Rule) (M : ℕ) (M< : M < 2 ^ 64) (kept : All (Keeps m M) rules) where
+module _ (m : Meaning) (w : Way) (rules : List Rule) (M : ℕ) (M< : M < 2 ^ 64) (kept : AllByRecursion (Keeps m M) rules) where
   pub reached_in : (i : ℕ) → round (derives m w rules M) i ⊆ M
   reached_in = round_in M M< (derives m w rules M) (derives_mono m w rules M M<) (derives_inside m w rules M M< kept)
 
@@ -88,7 +88,7 @@ module _ (m : Meaning) (w : Way) (rules : List Rule) (M : ℕ) (M< : M < 2 ^ 64)
 
 -- ---- stamped ranks are the rounds
 
-module _ (m : Meaning) (w : Way) (rules : List Rule) (M : ℕ) (M< : M < 2 ^ 64) (kept : All (Keeps m M) rules)
+module _ (m : Meaning) (w : Way) (rules : List Rule) (M : ℕ) (M< : M < 2 ^ 64) (kept : AllByRecursion (Keeps m M) rules)
     (ranks : List ℕ) (stamps : (d : ℕ) → d < 64 → Stamped (derives m w rules M) 64 d (get_or ranks d 0)) where
   abbrev der : ℕ → ℕ → Bool
   der = derives m w rules M

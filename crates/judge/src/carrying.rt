@@ -1,5 +1,5 @@
 ghost use Rattle.std.specs.Prelude.{map, Decides};
-ghost use Rattle.std.specs.List.{AllByRecursion as All};
+ghost use Rattle.std.specs.List.{AllByRecursion};
 ghost use Rattle.answer_sets.specs.Rules.{Carried};
 ghost use Rattle.rules.specs.Shapes.{way_of, entry_of};
 
@@ -24,7 +24,7 @@ pub fn carried<B: Bank>(bank: &B, way: Way, e: Entry, span: Span) -> bool
 
 // Whether every entry of a body is carried over a span.
 pub fn all_carried<B: Bank>(bank: &B, way: Way, body: &[Entry], span: Span) -> bool
-    ensures { Decides result (All (λ e. Carried (B.meaning bank.now) (way_of way) e span.lower span.upper) (map entry_of body.now)) }
+    ensures { Decides result (AllByRecursion (λ e. Carried (B.meaning bank.now) (way_of way) e span.lower span.upper) (map entry_of body.now)) }
 {
     for e in body {
         if !carried(bank, way, *e, span) {

@@ -1,5 +1,5 @@
 ghost use Rattle.std.specs.Prelude.{◌≡◌, ℕ, ◌<◌, true, map, length, Decides, MatchOption};
-ghost use Rattle.std.specs.List.{HoldsAt, AllByRecursion as All};
+ghost use Rattle.std.specs.List.{HoldsAt, AllByRecursion};
 ghost use Rattle.answer_sets.specs.Rules.{meets, holds, HeadIn, Keeps, LowestBroken};
 ghost use Rattle.rules.specs.Shapes.{entry_of, head_of, rule_of, rules_of};
 
@@ -27,7 +27,7 @@ pub fn holds_at<B: Bank>(bank: &B, e: Entry, set: Set) -> bool
 
 // Whether every entry of a body holds at a set.
 fn body_holds<B: Bank>(bank: &B, body: &[Entry], set: Set) -> bool
-    ensures { Decides result (All (λ e. holds (B.meaning bank.now) e set ≡ true) (map entry_of body.now)) }
+    ensures { Decides result (AllByRecursion (λ e. holds (B.meaning bank.now) e set ≡ true) (map entry_of body.now)) }
 {
     for e in body {
         if !holds_at(bank, *e, set) {
@@ -39,7 +39,7 @@ fn body_holds<B: Bank>(bank: &B, body: &[Entry], set: Set) -> bool
 
 // Whether some entry of a body fails at a set.
 fn body_fails<B: Bank>(bank: &B, body: &[Entry], set: Set) -> bool
-    ensures { Decides result (All (λ e. holds (B.meaning bank.now) e set ≡ true) (map entry_of body.now) → ⊥) }
+    ensures { Decides result (AllByRecursion (λ e. holds (B.meaning bank.now) e set ≡ true) (map entry_of body.now) → ⊥) }
 {
     !body_holds(bank, body, set)
 }
@@ -67,10 +67,10 @@ pub fn keeps<B: Bank>(bank: &B, rule: &Rule, set: Set) -> bool
 // The lowest rule that a set breaks, if it breaks one.
 pub fn lowest_broken<B: Bank>(bank: &B, rules: &[Rule], set: Set) -> Option<usize>
     ensures lowest { MatchOption result
-        (All (Keeps (B.meaning bank.now) set) (rules_of rules.now))
+        (AllByRecursion (Keeps (B.meaning bank.now) set) (rules_of rules.now))
         (LowestBroken (B.meaning bank.now) (rules_of rules.now) set) }
     ensures broken { MatchOption result
-        (All (Keeps (B.meaning bank.now) set) (rules_of rules.now))
+        (AllByRecursion (Keeps (B.meaning bank.now) set) (rules_of rules.now))
         (λ i. (i < length rules.now)
         × HoldsAt (λ x. Keeps (B.meaning bank.now) set (rule_of x) → ⊥) rules.now i
         × ((j : ℕ) → j < i → HoldsAt (λ x. Keeps (B.meaning bank.now) set (rule_of x)) rules.now j)) }
@@ -85,7 +85,7 @@ pub fn lowest_broken<B: Bank>(bank: &B, rules: &[Rule], set: Set) -> Option<usiz
 
 // Whether a set keeps every rule.
 pub fn keeps_all<B: Bank>(bank: &B, rules: &[Rule], set: Set) -> bool
-    ensures { Decides result (All (Keeps (B.meaning bank.now) set) (rules_of rules.now)) }
+    ensures { Decides result (AllByRecursion (Keeps (B.meaning bank.now) set) (rules_of rules.now)) }
 {
     lowest_broken(bank, rules, set).is_none()
 }

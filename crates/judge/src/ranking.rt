@@ -1,5 +1,5 @@
 ghost use Rattle.std.specs.Prelude.{◌≡◌, ℕ, ◌+◌, ◌^◌, ◌<◌, true, ◌&&◌, length, if◌then◌else◌, Decides, MatchOption, ◌≢◌, nat_eq, slice_index};
-ghost use Rattle.std.specs.List.{AllByRecursion as All};
+ghost use Rattle.std.specs.List.{AllByRecursion};
 ghost use Rattle.sets.specs.Sets.{has, ◌∈◌, ◌∉◌};
 ghost use Rattle.answer_sets.specs.Rounds.{Rounds};
 ghost use Rattle.answer_sets.specs.Published.{AnswerSetBy, program};
@@ -46,7 +46,7 @@ fn settled(next: Set, reached: Set) -> bool
 // The rank of each decision: the first round that has it, or 0. The rounds end when they have reached the set, or when one adds nothing; so there
 // are no more of them than the set has decisions.
 fn first_rounds<B: Bank>(bank: &B, way: Way, rules: &[Rule], set: Set) -> [u8; 64]
-    requires { All (Keeps (B.meaning bank.now) set) (rules_of rules.now) }
+    requires { AllByRecursion (Keeps (B.meaning bank.now) set) (rules_of rules.now) }
     ensures { (d : ℕ) → d < 64 → Stamped (derives (B.meaning bank.now) (way_of way) (rules_of rules.now) set) 64 d (slice_index result d) }
 {
     let mut ranks = [0u8; 64];
@@ -104,7 +104,7 @@ pub fn rank_set<B: Bank>(bank: &B, way: Way, rules: &[Rule], set: Set) -> Option
         (AnswerSetBy (way_of way) (program (B.meaning bank.now) (rules_of rules.now)) set → ⊥)
         (λ _. AnswerSetBy (way_of way) (program (B.meaning bank.now) (rules_of rules.now)) set) }
     ensures minimal { MatchOption result (Unit {0})
-        (λ _. way_of way ≡ complement → (n : ℕ) → n < 2 ^ 64 → All (Keeps (B.meaning bank.now) n) (rules_of rules.now)
+        (λ _. way_of way ≡ complement → (n : ℕ) → n < 2 ^ 64 → AllByRecursion (Keeps (B.meaning bank.now) n) (rules_of rules.now)
         → (n ≡ set → ⊥) → (d : ℕ) × (d ∈ n) × (d ∉ set)) }
 {
     find_ranks(bank, way, rules, set)

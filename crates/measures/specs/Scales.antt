@@ -1,6 +1,6 @@
 -- What a measure is, and the laws that every measure owes.
 use Rattle.std.specs.Prelude.{◌≡◌, ℕ, ◌≤◌, Bool, true, false, ◌⊎◌, List, [], ◌∷◌, length}
-use Rattle.std.specs.List.{AllByRecursion as All}
+use Rattle.std.specs.List.{AllByRecursion}
 
 -- figures W, as tables hold them, and totals T: `ok` figures may be weights, `fair` ones may be bounds; `nothing` is the total of no
 -- weights, `lay t w` is t with the weight w laid on, and `le s t` says that s is not above t
@@ -19,7 +19,7 @@ laid s t (w ∷ ws) = laid s (s.lay t w) ws
 
 -- each figure of a list may be a weight
 abbrev pub Allowed : {W T : Type 0} → Scale W T → List W → Type 0
-Allowed s ws = All (λ w. s.ok w ≡ true) ws
+Allowed s ws = AllByRecursion (λ w. s.ok w ≡ true) ws
 
 -- t is a total of at most n weights
 abbrev pub Total : {W T : Type 0} → Scale W T → ℕ → T → Type 0

@@ -1,6 +1,6 @@
 -- What enter asks of a rule, whatever the book.
 use Rattle.std.specs.Prelude.{ℕ, ◌≤◌, List, length}
-use Rattle.std.specs.List.{AllByRecursion as All}
+use Rattle.std.specs.List.{AllByRecursion}
 use Rattle.banks.specs.Meaning.{Meaning}
 use Rattle.account.specs.Limits.{max_body}
 use Rattle.account.specs.Naming.{NamesHead, Known}
@@ -9,4 +9,4 @@ use Rattle.account.specs.Naming.{NamesHead, Known}
 pub record Sound (m : Meaning) (h : ℕ) (body : List ℕ) : Type 0 where
   pub head : NamesHead h
   pub short : length body ≤ max_body
-  pub known : All (Known m) body
+  pub known : AllByRecursion (Known m) body

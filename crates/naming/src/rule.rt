@@ -1,6 +1,6 @@
 ghost use Rattle.std.specs.Prelude.{◌≡◌, ◌<◌, ◌≤◌, map, length, take, Decides, MatchBool, MatchResult};
 ghost use Rattle.std.specs.Option as Options;
-ghost use Rattle.std.specs.List.{AllByRecursion as All};
+ghost use Rattle.std.specs.List.{AllByRecursion};
 ghost use Rattle.answer_sets.specs.Rules.{Any};
 ghost use Rattle.refusals.specs.Numbers.{number, told};
 ghost use Rattle.rules.specs.Shapes.{entry_of, rule_of};
@@ -26,7 +26,7 @@ fn is_known<B: Bank>(bank: &B, number: u16) -> bool
 // Whether each entry's condition is one of the bank's.
 fn all_known<B: Bank>(bank: &B, body: &[u16]) -> bool
     ensures { MatchBool result
-        (All (Known (B.meaning bank.now)) body.now)
+        (AllByRecursion (Known (B.meaning bank.now)) body.now)
         (Any (Unknown (B.meaning bank.now)) body.now) }
 {
     for e in body {

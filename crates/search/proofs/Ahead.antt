@@ -1,6 +1,6 @@
 -- Going through what a walk has ahead, set by set.
 use Rattle.std.proofs.Common.{◌≡◌, ℕ, ◌+◌, ◌<◌, List, [], ◌∷◌, ◌++◌, length, Some, None, Option, sym, ap, ◌∙◌, subst, arith, MatchOption}
-use Rattle.std.specs.List.{AllByRecursion as All}
+use Rattle.std.specs.List.{AllByRecursion}
 use Rattle.std.proofs.ByRecursion.{All-append}
 use Rattle.std.proofs.lemmas.List.{append_assoc, append-nil, length-append, length_push}
 use Rattle.sets.specs.Walks.{sets_from}
@@ -17,7 +17,7 @@ to_come_step {w = w} (Some v) is c = ap to_come is ∙ c.1 ∙ ap (λ (s : Span)
 
 -- of `all`, the first n are left behind, each so, and the rest is to come
 abbrev pub Passed : (ℕ → Type 0) → List ℕ → List ℕ → ℕ → Type 0
-Passed P all rest n = (before : List ℕ) × (all ≡ before ++ rest) × (n ≡ length before) × All P before
+Passed P all rest n = (before : List ℕ) × (all ≡ before ++ rest) × (n ≡ length before) × AllByRecursion P before
 
 pub passed_more : (P : ℕ → Type 0) {all rest rest' : List ℕ} {s n m : ℕ} → rest ≡ s ∷ rest' → m ≡ n + 1 → P s → Passed P all rest n → Passed P all rest' m
 passed_more P {all} {rest} {rest'} {s} e k h (before, split, count, each) = (
@@ -32,7 +32,7 @@ pub passed_fewer : (P : ℕ → Type 0) {all rest rest' : List ℕ} {s n : ℕ} 
 passed_fewer P {all} {rest} e (before, split, count, each) = omega (arith, ap length split, length-append before rest, ap length e)
 
 -- where none is to come, all are left behind
-pub passed_all : (P : ℕ → Type 0) {all rest : List ℕ} {n : ℕ} → rest ≡ [] → Passed P all rest n → (n ≡ length all) × All P all
+pub passed_all : (P : ℕ → Type 0) {all rest : List ℕ} {n : ℕ} → rest ≡ [] → Passed P all rest n → (n ≡ length all) × AllByRecursion P all
 passed_all P {all} e (before, split, count, each) =
     let same : before ≡ all = sym (split ∙ ap (λ (l : List ℕ). before ++ l) e ∙ append-nil before) in
-    (count ∙ ap length same, subst (All P) same each)
+    (count ∙ ap length same, subst (AllByRecursion P) same each)

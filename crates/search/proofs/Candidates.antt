@@ -1,7 +1,7 @@
 -- The candidates of a search: how many they are, and that every answer set is among them.
 use Rattle.std.proofs.Common.{◌≡◌, ℕ, ◌^◌, ◌<◌, ◌≤◌, true, not, leb, List, [], ◌∷◌, ◌++◌, length, Some, None, Option, sym, refl, ap, ◌∙◌, subst, ap₂, ⊎_elim, arith, pow_mono, MatchOption}
 use lib.Bits.{bit_xor, and_zero_r, xor_zero_r}
-use Rattle.std.specs.List.{AllByRecursion as All}
+use Rattle.std.specs.List.{AllByRecursion}
 use Rattle.std.proofs.lemmas.List.Filters.{length-filter_both}
 use Rattle.sets.specs.Sets.{◌⊆◌, ◌∖◌, size}
 use Rattle.sets.specs.Lists.{member}
@@ -54,7 +54,7 @@ module _ (H : ℕ) (fits : H < 2 ^ 64) (start : ℕ) where
     borne_candidate n l b = to_candidates n (λ d h. (drawn d).1 (given m w rules n b d h)) l
 
     pub lowest_answer : (s : ℕ) (before after : List ℕ) → candidates start H ≡ before ++ s ∷ after → Borne m w rules s
-        → All (λ n. Borne m w rules n → ⊥) before → LowestAnswer m w rules start s
+        → AllByRecursion (λ n. Borne m w rules n → ⊥) before → LowestAnswer m w rules start s
     lowest_answer s before after split b none =
         let k = in_candidates s (subst (λ (l : List ℕ). member s l ≡ true) (sym split) (member_append_right s before (s ∷ after) (member_head s after))) in
         let small : s < 2 ^ 64 = sub_lt 64 s H k.0 fits in
@@ -71,7 +71,7 @@ module _ (H : ℕ) (fits : H < 2 ^ 64) (start : ℕ) where
               (member_append n before (s ∷ after) (subst (λ (x : List ℕ). member n x ≡ true) split (borne_candidate n g c)));
         }
 
-    pub no_answer : All (λ n. Borne m w rules n → ⊥) (candidates start H) → NoAnswer m w rules start
+    pub no_answer : AllByRecursion (λ n. Borne m w rules n → ⊥) (candidates start H) → NoAnswer m w rules start
     no_answer none n l g a =
         let c : Borne m w rules n = (borne_is_answer_set m w rules n l).1 a in
         all_member (λ x. Borne m w rules x → ⊥) (candidates start H) none n (borne_candidate n g c) c

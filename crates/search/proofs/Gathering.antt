@@ -1,6 +1,6 @@
 -- The sets that are gathered: what a test for bearing keeps of the candidates.
 use Rattle.std.proofs.Common.{◌≡◌, ℕ, ◌^◌, ◌<◌, ◌≤◌, Bool, true, false, cond, List, [], ◌∷◌, ◌++◌, length, filter, Option, sym, refl, ap, ◌∙◌, subst, ap₂, ⊎_elim, arith}
-use Rattle.std.specs.List.{AllByRecursion as All}
+use Rattle.std.specs.List.{AllByRecursion}
 use Rattle.std.proofs.lemmas.List.Elements.{filter-append}
 use Rattle.std.proofs.lemmas.List.{length-append}
 use Rattle.std.proofs.lemmas.Bool.{cases_Bool}
@@ -24,9 +24,9 @@ use Rattle.search.proofs.Candidates.{in_candidates, sorted_candidates, borne_can
 
 -- each set of the list is one of 64 decisions
 abbrev pub Small : List ℕ → Type 0
-Small xs = All (λ n. n < 2 ^ 64) xs
+Small xs = AllByRecursion (λ n. n < 2 ^ 64) xs
 
-kept_none : (p : ℕ → Bool) (xs : List ℕ) → All (λ n. p n ≡ false) xs → filter p xs ≡ []
+kept_none : (p : ℕ → Bool) (xs : List ℕ) → AllByRecursion (λ n. p n ≡ false) xs → filter p xs ≡ []
 kept_none p [] h = refl
 kept_none p (x ∷ xs) h = ap₂ (λ (b : Bool) (l : List ℕ). cond b (x ∷ l) l) h.0 (kept_none p xs h.1)
 
@@ -35,7 +35,7 @@ module _ (m : Meaning) (w : Way) (rules : List Rule) where
   abbrev pub borne_of : List ℕ → List ℕ
   borne_of xs = filter (borneb m w rules) xs
 
-  unborne : (xs : List ℕ) → Small xs → All (λ n. Borne m w rules n → ⊥) xs → borne_of xs ≡ []
+  unborne : (xs : List ℕ) → Small xs → AllByRecursion (λ n. Borne m w rules n → ⊥) xs → borne_of xs ≡ []
   unborne xs small none =
       kept_none (borneb m w rules) xs
       (all_zip (λ n. n < 2 ^ 64) (λ n. Borne m w rules n → ⊥) (λ n. borneb m w rules n ≡ false)

@@ -1,6 +1,6 @@
 -- What a walk has ahead of it, and where a search in it stops.
 use Rattle.std.specs.Prelude.{◌≡◌, ℕ, ◌+◌, ◌^◌, ◌<◌, ◌≤◌, List, [], ◌∷◌, ◌++◌, length, Some, None, Option, MatchOption}
-use Rattle.std.specs.List.{AllByRecursion as All}
+use Rattle.std.specs.List.{AllByRecursion}
 use Rattle.sets.specs.Sets.{size}
 use Rattle.sets.specs.Walks.{sets_from}
 use Rattle.sets.specs.declared.walk.Walk.{Walk}
@@ -28,12 +28,12 @@ pub record FirstBorne (m : Meaning) (w : Way) (rules : List Rule) (coming rest :
   pub split : coming ≡ before ++ s ∷ rest
   pub count : tried ≡ length before + 1
   pub borne : Borne m w rules s
-  pub none_before : All (λ n. Borne m w rules n → ⊥) before
+  pub none_before : AllByRecursion (λ n. Borne m w rules n → ⊥) before
 
 -- no ranks bear one of the sets to come, and `tried` counts them all
 pub record NoneBorne (m : Meaning) (w : Way) (rules : List Rule) (coming : List ℕ) (tried : ℕ) : Type 0 where
   pub count : tried ≡ length coming
-  pub none : All (λ n. Borne m w rules n → ⊥) coming
+  pub none : AllByRecursion (λ n. Borne m w rules n → ⊥) coming
 
 -- the search stopped at the first set to come that some ranks bear, or went through them all
 abbrev pub Stops : Meaning → Way → List Rule → List ℕ → Stop → Type 0

@@ -1,6 +1,6 @@
 -- Going up through the sets drawn from the heads of rules, for the first that some ranks bear.
 use Rattle.std.specs.Prelude.{◌≡◌, ℕ, ◌+◌, ◌^◌, ◌<◌, ◌≤◌, ◌⊎◌, ◌↔◌, List, [], ◌∷◌, ◌++◌, length}
-use Rattle.std.specs.List.{AllByRecursion as All}
+use Rattle.std.specs.List.{AllByRecursion}
 use Rattle.sets.specs.Sets.{◌∈◌, size}
 use Rattle.sets.specs.Walks.{sets_from}
 use Rattle.refusals.specs.Numbers.{Says}
@@ -27,7 +27,7 @@ pub record Found (m : Meaning) (w : Way) (rules : List Rule) (start s tried : �
   pub split : candidates start heads ≡ before ++ s ∷ after
   pub count : tried ≡ length before + 1
   pub borne : Borne m w rules s
-  pub none_before : All (λ n. Borne m w rules n → ⊥) before
+  pub none_before : AllByRecursion (λ n. Borne m w rules n → ⊥) before
 
 -- no ranks bear a candidate, and `tried` counts them all
 pub record NoneFound (m : Meaning) (w : Way) (rules : List Rule) (start tried : ℕ) : Type 0 where
@@ -35,7 +35,7 @@ pub record NoneFound (m : Meaning) (w : Way) (rules : List Rule) (start tried : 
   pub drawn : Heads rules heads
   pub few : size heads ≤ 16
   pub count : tried ≡ length (candidates start heads)
-  pub none : All (λ n. Borne m w rules n → ⊥) (candidates start heads)
+  pub none : AllByRecursion (λ n. Borne m w rules n → ⊥) (candidates start heads)
 
 -- there are more than sixteen different heads
 abbrev pub HasManyHeads : List Rule → Type 0

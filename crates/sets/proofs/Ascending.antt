@@ -1,6 +1,6 @@
 -- Ascending lists of numbers, and what stands in them. Two of them with the same numbers are the same list.
 use Rattle.std.proofs.Common.{◌≡◌, ℕ, zero, suc, ◌+◌, ◌<◌, Bool, true, false, cond, eqb, ◌⊎◌, List, [], ◌∷◌, ◌++◌, map, length, get_or, filter, sym, refl, ap, ◌∙◌, subst, ap₂, inl, inr, ⊎_elim, suc-le-suc, le_of_suc-le-suc, not-suc-le-zero, zero-lt-suc, add-one, arith}
-use Rattle.std.specs.List.{AllByRecursion as All}
+use Rattle.std.specs.List.{AllByRecursion}
 use Rattle.std.proofs.lemmas.Bool.{both_ways, eqb-true, eq-eqb, or_cases, or_left, or_right, cases_order}
 use Rattle.std.proofs.ByRecursion.{All-weaker, All-append, All-map}
 use Rattle.sets.specs.Lists.{member, Ascends}
@@ -82,11 +82,11 @@ member_of_kept p x (y ∷ xs) h =
     (λ m. let q = member_of_kept p x xs m in (member_tail x y xs q.0, q.1))
     (of_pick (p y) x y (filter p xs) h)
 
-pub all_member : (P : ℕ → Type 0) (xs : List ℕ) → All P xs → (x : ℕ) → member x xs ≡ true → P x
+pub all_member : (P : ℕ → Type 0) (xs : List ℕ) → AllByRecursion P xs → (x : ℕ) → member x xs ≡ true → P x
 all_member P [] a x h = member-none x h
 all_member P (y ∷ xs) a x h = ⊎_elim (λ e. subst P e a.0) (λ m. all_member P xs a.1 x m) (member_cases x y xs h)
 
-pub all_of_members : (P : ℕ → Type 0) (xs : List ℕ) → ((x : ℕ) → member x xs ≡ true → P x) → All P xs
+pub all_of_members : (P : ℕ → Type 0) (xs : List ℕ) → ((x : ℕ) → member x xs ≡ true → P x) → AllByRecursion P xs
 all_of_members P [] h = tt
 all_of_members P (y ∷ xs) h = (h y (member_head y xs), all_of_members P xs (λ x m. h x (member_tail x y xs m)))
 
@@ -94,7 +94,7 @@ all_of_members P (y ∷ xs) h = (h y (member_head y xs), all_of_members P xs (λ
 
 abbrev pub Sorted : List ℕ → Type 0
 Sorted [] = Unit {0}
-Sorted (x ∷ xs) = All (λ y. x < y) xs × Sorted xs
+Sorted (x ∷ xs) = AllByRecursion (λ y. x < y) xs × Sorted xs
 
 ascends_tail : (x : ℕ) (xs : List ℕ) → Ascends (x ∷ xs) → Ascends xs
 ascends_tail x xs h i l =
@@ -129,7 +129,7 @@ sorted_map f [] h s = tt
 sorted_map f (x ∷ xs) h s =
     (All-map (λ y. f x < y) f xs (All-weaker (λ y. x < y) (λ y. f x < f y) (λ y l. h x y l) xs s.0), sorted_map f xs h s.1)
 
-sorted_pick : (b : Bool) (x : ℕ) (ks : List ℕ) → All (λ y. x < y) ks → Sorted ks → Sorted (cond b (x ∷ ks) ks)
+sorted_pick : (b : Bool) (x : ℕ) (ks : List ℕ) → AllByRecursion (λ y. x < y) ks → Sorted ks → Sorted (cond b (x ∷ ks) ks)
 sorted_pick true x ks a s = (a, s)
 sorted_pick false x ks a s = s
 

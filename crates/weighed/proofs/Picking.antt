@@ -2,7 +2,7 @@
 use Rattle.std.proofs.Common.{◌≡◌, ℕ, zero, suc, ◌+◌, ◌<◌, ◌≤◌, Bool, true, false, ◌&&◌, List, [], ◌∷◌, length, get_or, take, drop, Decides, sym, refl, ap, ◌∙◌, subst, inr, le_of_suc-le-suc, not-suc-le-zero, arith, lit<}
 use mathlib.Core.Path.{fun_ext}
 use lib.Count.{ones-le}
-use Rattle.std.specs.List.{AllByRecursion as All}
+use Rattle.std.specs.List.{AllByRecursion}
 use Rattle.std.proofs.ByRecursion.{All-get_or, All-more}
 use Rattle.std.proofs.lemmas.List.{drop_all}
 use Rattle.std.proofs.lemmas.Bool.{both_ways, and_parts, and_from, eq-eqb}
@@ -25,13 +25,13 @@ pick_at (y ∷ xs) zero f z x h e = ap f (sym e)
 pick_at (y ∷ xs) (suc k) f z x h e = pick_at xs k f z x (le_of_suc-le-suc h) e
 
 -- what holds of each element and past the end holds at each place
-pub pick_all : {X Y : Type 0} (P : X → Type 0) (Q : Y → Type 0) (f : X → Y) (z : Y) → ((x : X) → P x → Q (f x)) → Q z → (xs : List X) (k : ℕ) → All P xs → Q (pick xs k f z)
+pub pick_all : {X Y : Type 0} (P : X → Type 0) (Q : Y → Type 0) (f : X → Y) (z : Y) → ((x : X) → P x → Q (f x)) → Q z → (xs : List X) (k : ℕ) → AllByRecursion P xs → Q (pick xs k f z)
 pick_all P Q f z h e [] k a = e
 pick_all P Q f z h e (x ∷ xs) zero a = h x a.0
 pick_all P Q f z h e (x ∷ xs) (suc k) a = pick_all P Q f z h e xs k a.1
 
 -- two readings that agree at each element
-pub pick_same : {X Y : Type 0} (P : X → Type 0) (f g : X → Y) (z : Y) → ((x : X) → P x → f x ≡ g x) → (xs : List X) (k : ℕ) → All P xs → pick xs k f z ≡ pick xs k g z
+pub pick_same : {X Y : Type 0} (P : X → Type 0) (f g : X → Y) (z : Y) → ((x : X) → P x → f x ≡ g x) → (xs : List X) (k : ℕ) → AllByRecursion P xs → pick xs k f z ≡ pick xs k g z
 pick_same P f g z h [] k a = refl
 pick_same P f g z h (x ∷ xs) zero a = h x a.0
 pick_same P f g z h (x ∷ xs) (suc k) a = pick_same P f g z h xs k a.1
@@ -39,11 +39,11 @@ pick_same P f g z h (x ∷ xs) (suc k) a = pick_same P f g z h xs k a.1
 -- ---- a loop that tests each element
 
 module _ {X : Type 0} (P : X → Type 0) (xs : List X) (i : ℕ) where
-  pub all_fails : (x : X) (r : Bool) → i < length xs → x ≡ get_or xs i x → Decides r (P x) → r ≡ false → Decides false (All P xs)
+  pub all_fails : (x : X) (r : Bool) → i < length xs → x ≡ get_or xs i x → Decides r (P x) → r ≡ false → Decides false (AllByRecursion P xs)
   all_fails x r h e d n =
       ((λ z. absurd (both_ways false refl z)), (λ a. absurd (both_ways r n (d.1 (subst P (sym e) (All-get_or P xs i x h a))))))
 
-  pub all_next : (x : X) (r : Bool) → i < length xs → x ≡ get_or xs i x → Decides r (P x) → r ≡ true → All P (take i xs) → All P (take (i + 1) xs)
+  pub all_next : (x : X) (r : Bool) → i < length xs → x ≡ get_or xs i x → Decides r (P x) → r ≡ true → AllByRecursion P (take i xs) → AllByRecursion P (take (i + 1) xs)
   all_next x r h e d y a = All-more P xs i x h a (subst P e (d.0 y))
 
 -- ---- weights that the measure allows

@@ -1,7 +1,7 @@
 -- The total that is carried toward an end is not further from it than the total of any set of the span, and is one of them: from the
 -- laws of a measure alone.
 use Rattle.std.proofs.Common.{◌≡◌, ℕ, ◌+◌, ◌<◌, ◌≤◌, Bool, true, false, cond, not, ◌&&◌, ◌||◌, List, [], ◌∷◌, ◌++◌, length, sym, refl, ap, ◌∙◌, subst, ap₂, inl, ⊎_elim, arith, length-append}
-use Rattle.std.specs.List.{AllByRecursion as All}
+use Rattle.std.specs.List.{AllByRecursion}
 use Rattle.std.proofs.ByRecursion.{All-push, All-weaker}
 use Rattle.std.proofs.lemmas.Bool.{both_ways, cases_Bool, eq-eqb, ne_eqb, eqb-true, or_cases, or_right, and_parts}
 use Rattle.measures.specs.Scales.{Scale, Laws, laid, Allowed, Total, Compared}
@@ -16,7 +16,7 @@ use Rattle.weighed.specs.declared.end.End.TheVariants.{Least, Greatest}
 -- ---- sets that differ in one decision
 
 -- what a list of decisions chooses depends on these decisions alone
-pub chosen_same : {W : Type 0} (ds : List ℕ) (ws : List W) (f g : ℕ) → All (λ d. has f d ≡ has g d) ds → chosen ds ws f ≡ chosen ds ws g
+pub chosen_same : {W : Type 0} (ds : List ℕ) (ws : List W) (f g : ℕ) → AllByRecursion (λ d. has f d ≡ has g d) ds → chosen ds ws f ≡ chosen ds ws g
 chosen_same [] ws f g a = refl
 chosen_same (d ∷ ds) [] f g a = refl
 chosen_same {W} (d ∷ ds) (w ∷ ws) f g a =

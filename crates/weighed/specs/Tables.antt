@@ -1,6 +1,6 @@
 -- Tables of weighed conditions: when they are valid, and what they mean.
 use Rattle.std.specs.Prelude.{◌≡◌, ℕ, zero, suc, ◌+◌, ◌≤◌, Bool, true, false, ◌&&◌, List, [], ◌∷◌, length, take, drop}
-use Rattle.std.specs.List.{AllByRecursion as All}
+use Rattle.std.specs.List.{AllByRecursion}
 use Rattle.banks.specs.Meaning.{Meaning}
 use Rattle.measures.specs.Scales.{Scale, laid, Allowed}
 use Rattle.sets.specs.Sets.{inside, size}
@@ -25,7 +25,7 @@ Sound s ws c =
 
 -- valid tables: at most 256 conditions, each of them sound
 abbrev pub Valid : {W T : Type 0} → Scale W T → List (WeighedCondition W) → List W → Type 0
-Valid s cs ws = (length cs ≤ 256) × All (Sound s ws) cs
+Valid s cs ws = (length cs ≤ 256) × AllByRecursion (Sound s ws) cs
 
 -- the total of a set's weights, laid on in ascending order from nothing
 abbrev pub total : {W T : Type 0} → Scale W T → WeighedCondition W → List W → ℕ → T

@@ -1,5 +1,5 @@
 ghost use Rattle.std.specs.Prelude.{◌≡◌, ◌<◌, length, Decides, MatchResult};
-ghost use Rattle.std.specs.List.{AllByRecursion as All};
+ghost use Rattle.std.specs.List.{AllByRecursion};
 ghost use Rattle.answer_sets.specs.Rules.{Keeps};
 ghost use Rattle.refusals.specs.Numbers.{number, told};
 ghost use Rattle.rows.specs.Rows.{held};
@@ -54,7 +54,7 @@ impl<B: Bank> Ledger<B> {
     // That the set keeps the rules, or the lowest one that it breaks.
     fn unbroken(&self, set: Set) -> Result<(), Refusal>
         ensures { MatchResult result
-            (λ _. All (Keeps (B.meaning self.now.bank) set) (view self.now).rules)
+            (λ _. AllByRecursion (Keeps (B.meaning self.now.bank) set) (view self.now).rules)
             (λ e. (number e ≡ 23) × TellsLowest (B.meaning self.now.bank) (view self.now) set (told e)) }
     {
         match lowest_broken(&self.bank, self.rules.as_slice(), set) {
@@ -66,7 +66,7 @@ impl<B: Bank> Ledger<B> {
     // That a page is free and the set keeps the rules, or why no page can be made of it.
     fn pageable(&self, set: Set) -> Result<(), Refusal>
         ensures { MatchResult result
-            (λ _. (length (held self.now.pages) < max_pages) × All (Keeps (B.meaning self.now.bank) set) (view self.now).rules)
+            (λ _. (length (held self.now.pages) < max_pages) × AllByRecursion (Keeps (B.meaning self.now.bank) set) (view self.now).rules)
             (λ e. NotPagedFirst (B.meaning self.now.bank) (view self.now) set (number e) (told e)) }
     {
         if !self.has_free_page() {

@@ -1,6 +1,6 @@
 use Rattle.std.proofs.Common.{◌≡◌, true, false, List, refl, subst, take_all}
 use mathlib.Core.Bool.{false≢true}
-use Rattle.std.specs.List.{AllByRecursion as All}
+use Rattle.std.specs.List.{AllByRecursion}
 use Rattle.std.proofs.ByRecursion.{All-more}
 use Rattle.answer_sets.specs.Rules.{Gives, Rule as Held}
 use Rattle.answer_sets.proofs.Each.{any_of_map, any_to_map, no_any}
@@ -33,5 +33,5 @@ returns g c =
       λ e. absurd (false≢true e),
       λ h. no_any {A = false ≡ true} (λ (x : Rule). P (rule_of x)) (λ (x : Rule). P (rule_of x) → ⊥) (λ x p q. q p) c.args.rules.now
           (any_of_map rule_of P c.args.rules.now h)
-          (subst (λ (xs : List Rule). All (λ (x : Rule). P (rule_of x) → ⊥) xs) (take_all _ _ c.loop-rule-test.false) c.loop-rule.invariant),
+          (subst (λ (xs : List Rule). AllByRecursion (λ (x : Rule). P (rule_of x) → ⊥) xs) (take_all _ _ c.loop-rule-test.false) c.loop-rule.invariant),
     )

@@ -1,5 +1,5 @@
 use Rattle.std.proofs.Common.{◌≡◌, true, List, map, Decides, sym, subst}
-use Rattle.std.specs.List.{AllByRecursion as All}
+use Rattle.std.specs.List.{AllByRecursion}
 use Rattle.std.proofs.lemmas.Bool.{both_ways}
 use Rattle.answer_sets.specs.Rules.{holds, HeadIn}
 use Rattle.rules.specs.Shapes.{entry_of, head_of, rule_of}
@@ -13,4 +13,4 @@ returns g c =
     let m = g.B.Bank.meaning c.args.bank.now in let r = c.args.rule.now in let M = c.args.set in
     keeps_not m M (rule_of r) c.body_fails.result
     (λ h. both_ways c.head_in.result c.if-head_in.false (c.head_in.ensures.1 (subst (λ (x : Head). HeadIn (head_of x) M) (sym c.head.ensures) h)))
-    (subst (λ (xs : List Entry). Decides c.body_fails.result (All (λ e. holds m e M ≡ true) (map entry_of xs) → ⊥)) c.body.ensures c.body_fails.ensures)
+    (subst (λ (xs : List Entry). Decides c.body_fails.result (AllByRecursion (λ e. holds m e M ≡ true) (map entry_of xs) → ⊥)) c.body.ensures c.body_fails.ensures)

@@ -1,5 +1,5 @@
 use Rattle.std.proofs.Common.{◌≡◌, ℕ, ◌^◌, ◌<◌, List, IfSome, Some, None, Option, subst, MatchOption}
-use Rattle.std.specs.List.{AllByRecursion as All}
+use Rattle.std.specs.List.{AllByRecursion}
 use Rattle.banks.specs.Meaning.{Meaning}
 use Rattle.sets.specs.Sets.{◌∈◌, ◌∉◌}
 use Rattle.answer_sets.specs.Published.{AnswerSetBy, program}
@@ -17,7 +17,7 @@ module _ (m : Meaning) (w : Way) (rules : List Rule) (M : ℕ) (fits : M < 2 ^ 6
   published (Some ranks) c = (borne_is_answer_set m w rules M fits).0 (ranks, c.bear)
 
   minimal : (o : Option (List ℕ)) → MatchOption o (Borne m w rules M → ⊥) (Rounds m w rules M)
-      → IfSome o (λ _. w ≡ complement → (n : ℕ) → n < 2 ^ 64 → All (Keeps m n) rules → (n ≡ M → ⊥) → (d : ℕ) × (d ∈ n) × (d ∉ M))
+      → IfSome o (λ _. w ≡ complement → (n : ℕ) → n < 2 ^ 64 → AllByRecursion (Keeps m n) rules → (n ≡ M → ⊥) → (d : ℕ) × (d ∈ n) × (d ∉ M))
   minimal None c = tt
   minimal (Some ranks) c = λ e n l k ne. bearing.minimal m rules M n fits l (subst (λ (v : Way). Borne m v rules M) e (ranks, c.bear)) k ne
 

@@ -1,5 +1,5 @@
 use Rattle.std.proofs.Common.{◌≡◌, ℕ, false, List, map, get_or, sym, refl, ap, ◌∙◌, subst, arith, take_all}
-use Rattle.std.specs.List.{AllByRecursion as All}
+use Rattle.std.specs.List.{AllByRecursion}
 use Rattle.sets.specs.declared.decision.Decision.{Decision}
 use Rattle.std.proofs.lemmas.Bool.Decides.{not_from_Decides}
 use Rattle.answer_sets.specs.Rules as meant
@@ -48,7 +48,7 @@ rules-preserved-then-not-carried g c =
     (grown_not m w s.lower s.upper (rule_of c.rule-item.result) o c.in-Takes.d.place
     (ap head_of (sym c.head.ensures ∙ c.in-Takes.is))
     (λ a. not_from_Decides false (fails entry_of P b c.loop-e.e-index blank (get_or b c.loop-e.e-index blank) c.carried.result (omega arith) refl c.carried.ensures c.if-not-carried.true) refl
-    (subst (λ (xs : List Entry). All P (map entry_of xs)) (sym c.body-body.ensures) a)))
+    (subst (λ (xs : List Entry). AllByRecursion P (map entry_of xs)) (sym c.body-body.ensures) a)))
     c.rules.invariant
 
 pub loop-e-preserved : goal.loop-e-preserved
@@ -66,7 +66,7 @@ rules-preserved g c =
     m w s.lower s.upper o c.with-out.result (λ y. y)
     (grown_with m w s.lower s.upper (rule_of c.rule-item.result) o c.in-Takes.d.place
     (ap head_of (sym c.head.ensures ∙ c.in-Takes.is)) c.with-out.result c.with-out.ensures
-    (subst (λ (xs : List Entry). All P (map entry_of xs)) c.body-body.ensures (all_passed entry_of P b c.loop-e.e-index (omega arith) c.loop-e.invariant)))
+    (subst (λ (xs : List Entry). AllByRecursion P (map entry_of xs)) c.body-body.ensures (all_passed entry_of P b c.loop-e.e-index (omega arith) c.loop-e.invariant)))
     c.rules.invariant
 
 pub returns : goal.returns

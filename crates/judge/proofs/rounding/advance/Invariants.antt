@@ -1,5 +1,5 @@
 use Rattle.std.proofs.Common.{ℕ, take}
-use Rattle.std.specs.List.{AllByRecursion as All}
+use Rattle.std.specs.List.{AllByRecursion}
 use Rattle.answer_sets.specs.Rules.{Carried}
 use Rattle.rules.specs.Shapes.{way_of, entry_of, rules_of}
 use Rattle.judge.specs.Reached.{GivenBy}
@@ -10,4 +10,4 @@ invariant-rules g l =
     (d : ℕ) → GivenBy (g.B.Bank.meaning l.bank) (way_of l.way) l.span.lower l.span.upper (rules_of (take l.rule-index l.rules)) d l.out
 
 abbrev pub invariant-loop-e : goal.invariant-loop-e
-invariant-loop-e g l = All (λ e. Carried (g.B.Bank.meaning l.bank) (way_of l.way) (entry_of e) l.span.lower l.span.upper) (take l.e-index l.body)
+invariant-loop-e g l = AllByRecursion (λ e. Carried (g.B.Bank.meaning l.bank) (way_of l.way) (entry_of e) l.span.lower l.span.upper) (take l.e-index l.body)

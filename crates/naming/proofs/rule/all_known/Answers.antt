@@ -1,5 +1,5 @@
 use Rattle.std.proofs.Common.{get_or, refl, subst, arith, take_all}
-use Rattle.std.specs.List.{AllByRecursion as All}
+use Rattle.std.specs.List.{AllByRecursion}
 use Rattle.std.proofs.ByRecursion.{All-more}
 use Rattle.std.proofs.lemmas.Bool.Decides.{not_from_Decides}
 use Rattle.answer_sets.proofs.Each.{any_at}
@@ -20,4 +20,4 @@ loop-e-preserved g c =
 pub returns : goal.returns
 returns g c =
     let m = g.B.Bank.meaning c.args.bank.now in
-    subst (All (Known m)) (take_all c.loop-e.e-index c.args.body.now (omega arith)) c.loop-e.invariant
+    subst (AllByRecursion (Known m)) (take_all c.loop-e.e-index c.args.body.now (omega arith)) c.loop-e.invariant

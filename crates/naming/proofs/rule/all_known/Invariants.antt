@@ -1,7 +1,7 @@
 use Rattle.std.proofs.Common.{take}
-use Rattle.std.specs.List.{AllByRecursion as All}
+use Rattle.std.specs.List.{AllByRecursion}
 use Rattle.account.specs.Naming.{Known}
 use Rattle.naming.proofs.rule.all_known.Given as goal
 
 abbrev pub invariant-loop-e : goal.invariant-loop-e
-invariant-loop-e g l = All (Known (g.B.Bank.meaning l.bank)) (take l.e-index l.body)
+invariant-loop-e g l = AllByRecursion (Known (g.B.Bank.meaning l.bank)) (take l.e-index l.body)

@@ -1,5 +1,5 @@
 use Rattle.std.proofs.Common.{ℕ, ◌≤◌, List, length, sym, refl, ap, ◌∙◌, subst, inr}
-use Rattle.std.specs.List.{AllByRecursion as All}
+use Rattle.std.specs.List.{AllByRecursion}
 use Rattle.std.proofs.lemmas.Option.{MatchOption-at_some, MatchOption-at_none}
 use Rattle.answer_sets.specs.Rules.{Borne}
 use Rattle.rules.specs.Shapes.{way_of, rules_of}
@@ -40,7 +40,7 @@ returns-in-None g c =
     let d = c.in_ok-from.ensures in let stop = c.first_borne-stop.result in
     let coming = to_come c.in_ok-from.from in
     let k = MatchOption-at_none (NoneBorne m w rs coming stop.tried) (FirstBorne m w rs coming (to_come stop.ahead) stop.tried) c.in-None.is c.first_borne-stop.ensures in
-    let none = subst (All (λ n. Borne m w rs n → ⊥)) d.coming k.none in
+    let none = subst (AllByRecursion (λ n. Borne m w rs n → ⊥)) d.coming k.none in
     record {
       found = inr (
         stop.tried,

@@ -1,5 +1,5 @@
 use Rattle.std.proofs.Common.{refl, subst, arith, take_all}
-use Rattle.std.specs.List.{AllByRecursion as All}
+use Rattle.std.specs.List.{AllByRecursion}
 use Rattle.weighed.specs.Tables.{Sound}
 use Rattle.weighed.proofs.Picking.{all_fails, all_next}
 use Rattle.weighed.proofs.tables.valid.Goals as goal
@@ -20,6 +20,6 @@ loop-c-preserved g c =
 
 pub returns : goal.returns
 returns g c = (
-  (λ _. (omega arith, subst (All (Sound g.M.Measure.scale c.args.weights.now)) (take_all c.loop-c.c-index c.args.conditions.now (omega arith)) c.loop-c.invariant)),
+  (λ _. (omega arith, subst (AllByRecursion (Sound g.M.Measure.scale c.args.weights.now)) (take_all c.loop-c.c-index c.args.conditions.now (omega arith)) c.loop-c.invariant)),
   (λ _. refl),
 )

@@ -1,7 +1,7 @@
 use Rattle.std.proofs.Common.{◌≡◌, ℕ, ◌<◌, List, [], ◌∷◌, length, Ok, Err, Result, sym, subst, arith, MatchResult}
 use Rattle.std.proofs.lemmas.List.{length-map}
 use Rattle.std.proofs.lemmas.Bool.Decides.{not_from_Decides}
-use Rattle.std.specs.List.{AllByRecursion as All}
+use Rattle.std.specs.List.{AllByRecursion}
 use Rattle.banks.specs.Meaning.{Meaning}
 use Rattle.answer_sets.specs.Rules.{Keeps}
 use Rattle.refusals.specs.Numbers.{number, told}
@@ -17,8 +17,8 @@ use Rattle.book.proofs.ledger.Ledger.pageable.Goals as goal
 
 -- what is said of the rules, with what is known of the pages
 either : (m : Meaning) (a : Account) (M : ℕ) (X : Type 0) → X → length a.pages < max_pages → (r : Result (Unit {0}) Refusal)
-    → MatchResult r (λ _. All (Keeps m M) a.rules) (λ e. (number e ≡ 23) × TellsLowest m a M (told e))
-    → MatchResult r (λ _. X × All (Keeps m M) a.rules) (λ e. NotPagedFirst m a M (number e) (told e))
+    → MatchResult r (λ _. AllByRecursion (Keeps m M) a.rules) (λ e. (number e ≡ 23) × TellsLowest m a M (told e))
+    → MatchResult r (λ _. X × AllByRecursion (Keeps m M) a.rules) (λ e. NotPagedFirst m a M (number e) (told e))
 either m a M X x free (Ok u) c = (x, c)
 either m a M X x free (Err e) c = subst (λ (n : ℕ). NotPagedFirst m a M n (told e)) (sym c.0) (one (told e) c.1)
   where
