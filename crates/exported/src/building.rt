@@ -1,4 +1,4 @@
-ghost use Rattle.std.specs.Prelude.{◌≡◌, [], MatchResult, ◌≢◌};
+ghost use Rattle.std.specs.Prelude.{◌≡◌, [], ◌∷◌, ◌++◌, length, MatchResult, ◌≢◌, nat_lt, if◌then◌else◌};
 ghost use Rattle.refusals.specs.Numbers.{number, Says};
 ghost use Rattle.rules.specs.Shapes.{way_of, rule_of, rules_of};
 ghost use Rattle.rows.specs.Rows.{held};
@@ -54,15 +54,30 @@ pub(crate) fn table_of(
     Ok(lines)
 }
 
+// How many entries the body of these numbers has.
+fn entries_of(numbers: &RuleNumbers) -> usize
+    ensures { result ≡ numbers.now.len }
+{
+    numbers.len as usize
+}
+
 // The rule of these numbers, over a bank.
 fn rule_of<B: Bank>(bank: &B, numbers: &RuleNumbers) -> Result<Rule, Refusal>
     ensures { MatchResult result (λ x. rule_of x ≡ rule_numbered numbers.now) (λ e. number e ≢ 28) }
 {
-    let len = numbers.len as usize;
+    let len = entries_of(numbers);
     if len > MAX_BODY {
         return Err(Refusal::LongBody);
     }
     rule_named(bank, numbers.head, &numbers.body[0..len])
+}
+
+// Puts one rule more at the end, unless the list is full; whether it did.
+fn keep(rules: &mut Row<Rule, 128>, rule: Rule) -> bool
+    ensures room { result ≡ nat_lt (length (held rules.old)) 128 }
+    ensures items { held rules.new ≡ (if result then held rules.old ++ rule ∷ [] else held rules.old) }
+{
+    rules.push(rule)
 }
 
 // The rules of these numbers, unless there are more than a book may have.
@@ -75,7 +90,7 @@ pub(crate) fn rules_of<B: Bank>(
     let mut rules = Row::new(Rule::empty());
     for n in numbers {
         let rule = rule_of(bank, n)?;
-        if !rules.push(rule) {
+        if !keep(&mut rules, rule) {
             return Err(Refusal::RulesFull);
         }
     }

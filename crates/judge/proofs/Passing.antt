@@ -40,12 +40,12 @@ first_failing P xs i x r h e d n a = (
 -- the same, said of what the list stands for
 pub first_failing_mapped : {X Y : Type 0} (f : X → Y) (P : Y → Type 0) (xs : List X) (i : ℕ) (x : X) (r : Bool) → i < length xs → x ≡ get_or xs i x → Decides r (P (f x)) → r ≡ false
     → AllByRecursion (λ y. P (f y)) (take i xs) → (i < length (map f xs)) × HoldsAt (λ y. P y → ⊥) (map f xs) i × ((j : ℕ) → j < i → HoldsAt P (map f xs) j)
-first_failing_mapped {X} f P xs i x r h e d n a = (
-  omega (arith, length-map xs f),
-  (λ z. subst (λ y. P y → ⊥) (sym (get_or-map f xs i x z h)) (subst (λ (y : X). P (f y) → ⊥) e (not_from_Decides r d n))),
-  (λ j l z. subst P (sym (get_or-map f xs j x z (omega arith)))
-      (subst (λ (y : X). P (f y)) (get_or-take i xs j x l) (All-get_or (λ (y : X). P (f y)) (take i xs) j x (omega (arith, length-take i xs)) a))),
-)
+first_failing_mapped {X} f P xs i x r h e d n a =
+    let k = first_failing (λ (y : X). P (f y)) xs i x r h e d n a in (
+      omega (arith, length-map xs f),
+      (λ z. subst (λ y. P y → ⊥) (sym (get_or-map f xs i x z h)) (k.0 x)),
+      (λ j l z. subst P (sym (get_or-map f xs j x z (omega arith))) (k.1 j l x)),
+    )
 
 pub decides_eq : (r b : Bool) → r ≡ b → Decides r (b ≡ true)
 decides_eq r b e = ((λ y. sym e ∙ y), (λ y. e ∙ y))

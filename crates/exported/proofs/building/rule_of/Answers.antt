@@ -9,6 +9,6 @@ use Rattle.exported.proofs.building.rule_of.Goals as goal
 pub returns : goal.returns
 returns g c =
     let n = c.args.numbers.now in
-    let whole : n.len - 0 ≡ n.len = omega arith in
+    let whole : c.entries_of-len.result - 0 ≡ n.len = omega arith in
     MatchResult-weaker c.rule_named.result c.rule_named.ensures (λ x h. h.1 ∙ ap (λ (k : ℕ). rule_named n.head (take k n.body)) whole)
     (λ e h. other_than_none (g.B.Bank.meaning c.args.bank.now) blank _ _ (number e) (told e) (h blank).0)

@@ -12,7 +12,7 @@ pub loop-n-preserved : goal.loop-n-preserved
 loop-n-preserved g c =
     let ns = c.args.numbers.now in let i = c.loop-n.n-index in let x = c.in_ok-rule.rule in
     let before = held c.loop-n.rules in
-    ap shapes.rules_of (c.push.ensures.items ∙ cond-true c.push.result (before ++ x ∷ []) before c.if-not-push.false)
+    ap shapes.rules_of (c.keep.ensures.items ∙ cond-true c.keep.result (before ++ x ∷ []) before c.if-not-keep.false)
     ∙ map_push shapes.rule_of before x
     ∙ ap (λ (rs : List meant.Rule). rs ++ shapes.rule_of x ∷ []) c.loop-n.invariant
     ∙ ap (λ (y : meant.Rule). rules_numbered (take i ns) ++ y ∷ []) c.in_ok-rule.ensures
