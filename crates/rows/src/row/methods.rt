@@ -1,4 +1,4 @@
-ghost use Rattle.std.specs.Prelude.{◌≡◌, ◌-◌, ◌<◌, ◌≤◌, [], ◌∷◌, ◌++◌, length, take, if◌then◌else◌, Decides, nat_lt, slice_set};
+ghost use Rattle.std.specs.Prelude.{◌≡◌, ◌-◌, ◌<◌, ◌≤◌, [], ◌∷◌, ◌++◌, length, take, Decides, MatchOption, MatchResult, slice_set};
 ghost use Rattle.rows.specs.Rows.{held};
 
 use crate::row::Row;
@@ -11,6 +11,17 @@ fn write<T: Copy, const N: usize>(items: &mut [T; N], at: usize, x: T)
     items[at] = x;
 }
 
+// An array that begins with these items; `fill` takes the other places.
+fn filled<T: Copy, const N: usize>(fill: T, front: &[T]) -> [T; N]
+    requires { length front.now ≤ N }
+    ensures long { length result ≡ N }
+    ensures begins { take (length front.now) result ≡ front.now }
+{
+    let mut places = [fill; N];
+    places[..front.len()].copy_from_slice(front);
+    places
+}
+
 impl<T: Copy, const N: usize> Row<T, N> {
     // An empty list; `fill` takes the unused places.
     pub fn new(fill: T) -> Row<T, N>
@@ -20,6 +31,19 @@ impl<T: Copy, const N: usize> Row<T, N> {
             items: [fill; N],
             len: 0,
         }
+    }
+
+    // A list of these items, unless there are more than N; `fill` takes the unused places.
+    pub fn of(fill: T, items: &[T]) -> Option<Row<T, N>>
+        ensures { MatchOption result (N < length items.now) (λ row. held row ≡ items.now) }
+    {
+        if items.len() > N {
+            return None;
+        }
+        Some(Row {
+            items: filled(fill, items),
+            len: items.len(),
+        })
     }
 
     // How many items the list holds.
@@ -47,16 +71,24 @@ impl<T: Copy, const N: usize> Row<T, N> {
         self.len = at + 1;
     }
 
-    // Puts one item more at the end, unless the list is full; whether it did.
-    pub fn push(&mut self, x: T) -> bool
-        ensures room { result ≡ nat_lt (length (held self.old)) N }
-        ensures items { held self.new ≡ (if result then held self.old ++ x ∷ [] else held self.old) }
+    // Puts one item more at the end; a full list hands it back, and stays as it was.
+    pub fn push(&mut self, x: T) -> Result<(), T>
+        ensures { MatchResult result
+            (λ _. (length (held self.old) < N) × (held self.new ≡ held self.old ++ x ∷ []))
+            (λ y. (length (held self.old) ≡ N) × (y ≡ x) × (held self.new ≡ held self.old)) }
     {
         if self.is_full() {
-            return false;
+            return Err(x);
         }
         self.append(x);
-        true
+        Ok(())
+    }
+
+    // The last item, if there is one.
+    fn last(&self) -> Option<T>
+        ensures { MatchOption result (held self.now ≡ []) (λ x. held self.now ≡ take (length (held self.now) - 1) (held self.now) ++ x ∷ []) }
+    {
+        self.as_slice().last().copied()
     }
 
     // Takes the last item away from a list that is not empty.
@@ -67,16 +99,14 @@ impl<T: Copy, const N: usize> Row<T, N> {
         self.len -= 1;
     }
 
-    // Takes the last item away, if there is one; whether there was.
-    pub fn pop(&mut self) -> bool
-        ensures test { result ≡ nat_lt 0 (length (held self.old)) }
+    // Takes the last item away, if there is one, and hands it out.
+    pub fn pop(&mut self) -> Option<T>
         ensures items { held self.new ≡ take (length (held self.old) - 1) (held self.old) }
+        ensures last { MatchOption result (held self.old ≡ []) (λ x. held self.old ≡ held self.new ++ x ∷ []) }
     {
-        if self.len == 0 {
-            return false;
-        }
+        let x = self.last()?;
         self.shorten();
-        true
+        Some(x)
     }
 
     // The items.
