@@ -9,7 +9,7 @@ use Rattle.banks.specs.Meaning.{Meaning}
 use Rattle.answer_sets.specs.Rules.{Way, Rule, Bears}
 use Rattle.answer_sets.proofs.Each.{all_zip}
 use Rattle.account.specs.Limits.{max_rules, max_pages}
-use Rattle.account.specs.Naming.{rule_named}
+use Rattle.answer_sets.specs.Naming.{rule_named}
 use Rattle.account.specs.Account.{Page, Account, blank, Call, enter, withdraw, file, lodge, Answer, accepted, refused, Fits, PagesWith, Step, Run}
 use Rattle.account.proofs.Exact.{room}
 use Rattle.account.specs.Kept.{PageBorne, Front, NoLonger, Kept, StepKept, RunKept}

@@ -4,7 +4,7 @@ use Rattle.banks.specs.Meaning.{Meaning}
 use Rattle.answer_sets.specs.Rules.{Any, Way, Rule, Ranked, Bears, Borne, LowestBroken}
 use Rattle.answer_sets.specs.Rounds.{Rounds}
 use Rattle.account.specs.Limits.{max_body, max_rules, max_pages}
-use Rattle.account.specs.Naming.{NamesHead, Unknown, rule_named}
+use Rattle.answer_sets.specs.Naming.{NamesHead, Unknown, rule_named}
 
 -- a page: a set, the way by which it was filed, its ranks, and the rules that stood at the time, copied
 pub record Page : Type 0 where

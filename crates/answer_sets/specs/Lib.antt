@@ -4,3 +4,4 @@ pub mod Rounds
 pub mod Theorems
 pub mod Tests
 pub mod Examples
+pub mod Naming

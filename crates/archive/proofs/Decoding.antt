@@ -13,7 +13,7 @@ use Rattle.hexlines.specs.Hex.{Bytes}
 use Rattle.hexlines.proofs.Hexes.{bytes_append}
 use Rattle.frames.specs.Bytes.{in_two, in_eight, way_byte}
 use Rattle.frames.specs.Frames.{Frame, a_header, a_trailer, spelled, Fit}
-use Rattle.account.specs.Naming.{head_number}
+use Rattle.answer_sets.specs.Naming.{head_number}
 use Rattle.archive.specs.Text.{entry_number, body_bytes, rule_frame, page_frame, resting, inner, frames_of, lines, text_of}
 use Rattle.archive.specs.Formed.{HeadFormed, RuleFormed, PageFormed, Formed}
 use Rattle.archive.specs.Laws.{Reads, LineByLine}

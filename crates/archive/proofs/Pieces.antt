@@ -11,7 +11,7 @@ use Rattle.rules.specs.Shapes.{entry_of}
 use Rattle.rules.specs.declared.rule.Rule.{Rule}
 use Rattle.rules.specs.declared.entry.Entry.{Entry}
 use Rattle.account.specs.Account.{Page}
-use Rattle.account.specs.Naming.{head_number}
+use Rattle.answer_sets.specs.Naming.{head_number}
 use Rattle.frames.specs.Bytes.{in_two, in_eight, way_byte}
 use Rattle.frames.specs.Frames.{spelled}
 use Rattle.archive.specs.Text.{entry_number, body_bytes, rule_frame, page_frame}

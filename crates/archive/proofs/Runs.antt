@@ -11,7 +11,7 @@ use Rattle.banks.specs.Meaning.{Meaning}
 use Rattle.answer_sets.specs.Rules.{decision, no_head, Rule, Ranked, rank}
 use Rattle.answer_sets.proofs.Each.{all_left, all_zip}
 use Rattle.account.specs.Limits.{max_body}
-use Rattle.account.specs.Naming.{NamesHead, entry_named, rule_named}
+use Rattle.answer_sets.specs.Naming.{NamesHead, entry_named, rule_named}
 use Rattle.account.specs.Account.{Page, Account, blank, Call, enter, withdraw, file, lodge, Answer, accepted, refused, Step, Run}
 use Rattle.account.specs.Kept.{PageBorne, Front, Kept}
 use Rattle.account.proofs.Kept.{front_length, step_kept, blank_kept}

@@ -11,7 +11,7 @@ use Rattle.answer_sets.specs.Rules.{Way, Head, decision, no_head, Entry, Rule, R
 use Rattle.account.specs.Account.{Page}
 use Rattle.frames.specs.Frames.{spelled}
 use Rattle.frames.proofs.Known.{two_same, way_same, eight_same}
-use Rattle.account.specs.Naming.{head_number}
+use Rattle.answer_sets.specs.Naming.{head_number}
 use Rattle.archive.specs.Text.{entry_number, body_bytes, rule_frame, page_frame}
 use Rattle.archive.specs.Formed.{HeadFormed, RuleFormed, PageFormed}
 

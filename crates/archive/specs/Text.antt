@@ -4,7 +4,7 @@ use Rattle.std.specs.List.{flat_map}
 use Rattle.sets.specs.Walks.{decisions}
 use Rattle.answer_sets.specs.Rules.{Entry, Rule, rank}
 use Rattle.account.specs.Account.{Account, Page}
-use Rattle.account.specs.Naming.{head_number}
+use Rattle.answer_sets.specs.Naming.{head_number}
 use Rattle.hexlines.specs.Hex.{line}
 use Rattle.frames.specs.Bytes.{in_two}
 use Rattle.frames.specs.Frames.{Frame, a_header, a_rule, a_page, a_trailer, spelled}

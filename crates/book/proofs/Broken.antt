@@ -7,7 +7,7 @@ use Rattle.answer_sets.specs.Rules as meant
 use Rattle.answer_sets.specs.Rules.{Keeps}
 use Rattle.answer_sets.specs.Tests.{keepsb}
 use Rattle.answer_sets.proofs.Bearing.{keeps_sound, keeps_complete}
-use Rattle.account.specs.Naming.{head_number}
+use Rattle.answer_sets.specs.Naming.{head_number}
 use Rattle.rules.specs.Shapes.{rule_of, rules_of}
 use Rattle.rules.specs.declared.rule.Rule.{Rule}
 use Rattle.book.specs.declared.breach.Breach.{Breach}

@@ -9,7 +9,7 @@ use Rattle.answer_sets.proofs.Each.{no_any}
 use Rattle.refusals.specs.declared.refusal.Refusal.{Refusal}
 use Rattle.refusals.specs.Numbers.{number, told}
 use Rattle.account.specs.Limits.{max_rules, max_pages}
-use Rattle.account.specs.Naming.{Known, Unknown, rule_named}
+use Rattle.answer_sets.specs.Naming.{Known, Unknown, rule_named}
 use Rattle.account.specs.Account.{Account, Call, enter, withdraw, file, lodge, Held, NotPaged, Fits, FitsFirst, PagesWith, Step}
 use Rattle.account.proofs.Exact.{pageable, file_open, lodge_open}
 use Rattle.naming.specs.Sound.{Sound}

@@ -7,7 +7,7 @@ use Rattle.refusals.specs.declared.refusal.Refusal.{Refusal}
 use Rattle.refusals.specs.Numbers.{Says}
 use Rattle.rules.specs.Shapes.{way_of}
 use Rattle.account.specs.Account.{Page, Account}
-use Rattle.account.specs.Naming.{head_number}
+use Rattle.answer_sets.specs.Naming.{head_number}
 use Rattle.book.specs.declared.breach.Breach.{Breach}
 use Rattle.book.specs.declared.summary.Summary.{Summary}
 

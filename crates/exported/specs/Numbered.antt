@@ -4,7 +4,7 @@ use Rattle.banks.specs.Meaning.{Meaning}
 use Rattle.listed.specs.Tables.{listed}
 use Rattle.listed.specs.declared.condition.ListedCondition.{ListedCondition}
 use Rattle.answer_sets.specs.Rules.{Way, reduct, complement, Rule}
-use Rattle.account.specs.Naming.{rule_named}
+use Rattle.answer_sets.specs.Naming.{rule_named}
 use Rattle.exported.specs.declared.numbers.ConditionNumbers.{ConditionNumbers}
 use Rattle.exported.specs.declared.numbers.RuleNumbers.{RuleNumbers}
 

@@ -1,6 +1,6 @@
 ghost use Rattle.std.specs.Prelude.{◌≡◌};
 ghost use Rattle.rules.specs.Shapes.{entry_of};
-ghost use Rattle.account.specs.Naming.{entry_named};
+ghost use Rattle.answer_sets.specs.Naming.{entry_named};
 
 use rules::entry::Entry;
 

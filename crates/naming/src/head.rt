@@ -1,6 +1,6 @@
 ghost use Rattle.std.specs.Prelude.{◌≡◌, MatchOption};
 ghost use Rattle.rules.specs.Shapes.{head_of};
-ghost use Rattle.account.specs.Naming.{NamesHead, head_named, head_number};
+ghost use Rattle.answer_sets.specs.Naming.{NamesHead, head_named, head_number};
 
 use rules::head::Head;
 use sets::decision::Decision;

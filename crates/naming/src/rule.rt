@@ -4,7 +4,7 @@ ghost use Rattle.std.specs.List.{AllByRecursion};
 ghost use Rattle.answer_sets.specs.Rules.{Any};
 ghost use Rattle.refusals.specs.Numbers.{number, told};
 ghost use Rattle.rules.specs.Shapes.{entry_of, rule_of};
-ghost use Rattle.account.specs.Naming.{entry_named, Known, Unknown, rule_named};
+ghost use Rattle.answer_sets.specs.Naming.{entry_named, Known, Unknown, rule_named};
 ghost use Rattle.account.specs.Account.{Account, enter, FitsFirst};
 ghost use Rattle.naming.specs.Sound.{Sound};
 

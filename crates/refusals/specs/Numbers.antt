@@ -1,7 +1,7 @@
 -- Each refusal's number, and the values told with it.
 use Rattle.std.specs.Prelude.{◌≡◌, ℕ, List, [], ◌∷◌}
 use Rattle.refusals.specs.declared.refusal.Refusal.{Refusal}
-use Rattle.refusals.specs.declared.refusal.Refusal.TheVariants.{BadHead, LongBody, NoCondition, NoWay, BadRanks, BadTables, RulesFull, PagesFull, Breaks, Unborne, NoRule, RuleHeld, ManyHeads, NoSet, ShortMemory, NoPage}
+use Rattle.refusals.specs.declared.refusal.Refusal.TheVariants.{BadHead, LongBody, NoCondition, NoWay, BadRanks, BadTables, BadLine, BadFrame, RulesFull, PagesFull, Breaks, Unborne, NoRule, RuleHeld, ManyHeads, NoSet, ShortMemory, NoPage}
 
 abbrev pub number : Refusal → ℕ
 number BadHead = 11
@@ -10,6 +10,8 @@ number NoCondition = 13
 number NoWay = 14
 number BadRanks = 15
 number BadTables = 17
+number BadLine = 18
+number BadFrame = 19
 number RulesFull = 21
 number PagesFull = 22
 number (Breaks rule) = 23
@@ -28,6 +30,8 @@ told NoCondition = []
 told NoWay = []
 told BadRanks = []
 told BadTables = []
+told BadLine = []
+told BadFrame = []
 told RulesFull = []
 told PagesFull = []
 told (Breaks rule) = rule ∷ []

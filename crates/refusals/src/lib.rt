@@ -2,4 +2,5 @@
 #![tactic(auto)]
 
 pub mod refusal;
+pub mod showing;
 pub mod telling;

@@ -1,5 +1,5 @@
 // Why a call was refused. A case holds the values that are told with it.
-#[derive(Clone, Copy)]
+#[derive(Clone, Copy, Debug, PartialEq, Eq)]
 pub enum Refusal {
     // a number names neither a decision nor no head
     BadHead,
@@ -13,6 +13,10 @@ pub enum Refusal {
     BadRanks,
     // a bank's tables are not valid
     BadTables,
+    // a text does not begin with a line of hexadecimal digits
+    BadLine,
+    // a line's bytes spell no frame
+    BadFrame,
     // as many rules stand as a book may have
     RulesFull,
     // as many pages stand as a book may have

@@ -15,6 +15,8 @@ impl Refusal {
             Refusal::NoWay => 14,
             Refusal::BadRanks => 15,
             Refusal::BadTables => 17,
+            Refusal::BadLine => 18,
+            Refusal::BadFrame => 19,
             Refusal::RulesFull => 21,
             Refusal::PagesFull => 22,
             Refusal::Breaks(_) => 23,

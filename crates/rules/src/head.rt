@@ -1,10 +1,4 @@
 use sets::decision::Decision;
 
-// The head of a rule.
-#[derive(Clone, Copy)]
-pub enum Head {
-    // the rule gives this decision
-    Takes(Decision),
-    // no head: the body must not hold
-    Absent,
-}
+// The head of a rule: the decision that it gives, or none, where the body must not hold.
+pub type Head = Option<Decision>;

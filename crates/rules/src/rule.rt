@@ -1,62 +1,44 @@
-ghost use Rattle.std.specs.Prelude.{◌≡◌, ◌<◌, ◌≤◌, [], length, take, MatchOption};
-ghost use Rattle.rules.specs.declared.head.Head.TheVariants.{Absent};
+ghost use Rattle.std.specs.Prelude.{◌≡◌, ◌<◌, [], None, length, MatchOption};
+ghost use Rattle.rows.specs.Rows.{held};
 
 use crate::entry::Entry;
 use crate::head::Head;
+use rows::row::Row;
 
 // The most entries that a body may have.
 pub const MAX_BODY: usize = 8;
 
-// A rule: its body is the first `len` of its places.
+// What takes the places of a body that are not filled.
+pub const BLANK: Entry = Entry {
+    condition: 0,
+    negated: false,
+};
+
+// The entries of a rule.
+pub type Body = Row<Entry, MAX_BODY>;
+
 #[derive(Clone, Copy)]
 pub struct Rule {
     head: Head,
-    places: [Entry; 8],
-    len: usize,
-    ghost short: { len ≤ 8 },
-}
-
-// The entries of a body in eight places.
-fn filled(body: &[Entry]) -> [Entry; 8]
-    requires { length body.now ≤ 8 }
-    ensures { take (length body.now) result ≡ body.now }
-{
-    let mut places = [Entry {
-        condition: 0,
-        negated: false,
-    }; 8];
-    for i in 0..body.len() {
-        places[i] = body[i];
-    }
-    places
+    body: Body,
 }
 
 impl Rule {
     // A rule with this head and body, unless the body is too long.
     pub fn new(head: Head, body: &[Entry]) -> Option<Rule>
-        ensures { MatchOption result (8 < length body.now) (λ x. (x.head ≡ head) × (take x.len x.places ≡ body.now)) }
+        ensures { MatchOption result (8 < length body.now) (λ x. (x.head ≡ head) × (held x.body ≡ body.now)) }
     {
-        if body.len() > MAX_BODY {
-            return None;
-        }
-        Some(Rule {
-            head,
-            places: filled(body),
-            len: body.len(),
-        })
+        let body = Row::of(BLANK, body)?;
+        Some(Rule { head, body })
     }
 
     // The rule with no head and no entries, which every set breaks.
     pub fn empty() -> Rule
-        ensures { (result.head ≡ Absent) × (take result.len result.places ≡ []) }
+        ensures { (result.head ≡ None) × (held result.body ≡ []) }
     {
         Rule {
-            head: Head::Absent,
-            places: [Entry {
-                condition: 0,
-                negated: false,
-            }; 8],
-            len: 0,
+            head: None,
+            body: Row::new(BLANK),
         }
     }
 
@@ -67,8 +49,8 @@ impl Rule {
     }
 
     pub fn body(&self) -> &[Entry]
-        ensures { result.now ≡ take self.now.len self.now.places }
+        ensures { result.now ≡ held self.now.body }
     {
-        &self.places[0..self.len]
+        self.body.as_slice()
     }
 }

@@ -1,6 +1,6 @@
 ghost use Rattle.std.specs.Prelude.{◌≡◌, List};
 ghost use Rattle.answer_sets.specs.Rules.{Keeps};
-ghost use Rattle.account.specs.Naming.{head_number};
+ghost use Rattle.answer_sets.specs.Naming.{head_number};
 ghost use Rattle.rows.specs.Listings.{Lists};
 ghost use Rattle.rules.specs.Shapes.{rule_of, rules_of};
 ghost use Rattle.book.specs.Looking.{Breaches};

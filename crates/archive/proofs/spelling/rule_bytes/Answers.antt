@@ -2,7 +2,7 @@ use Rattle.std.proofs.Common.{◌++◌, map, length, take, sym, ap, ◌∙◌, a
 use Rattle.std.proofs.lemmas.List.{length-map}
 use Rattle.rows.specs.Rows.{held}
 use Rattle.rules.specs.Shapes.{entry_of, head_of}
-use Rattle.account.specs.Naming.{head_number}
+use Rattle.answer_sets.specs.Naming.{head_number}
 use Rattle.archive.specs.Text.{body_bytes}
 use Rattle.archive.proofs.Pieces.{rule_spelled, short_body}
 use Rattle.archive.proofs.spelling.rule_bytes.Goals as goal

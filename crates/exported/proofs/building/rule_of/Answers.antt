@@ -2,7 +2,7 @@ use Rattle.std.proofs.Common.{◌≡◌, ℕ, ◌-◌, take, ap, ◌∙◌, arit
 use Rattle.std.proofs.lemmas.Result.{MatchResult-weaker}
 use Rattle.refusals.specs.Numbers.{number, told}
 use Rattle.account.specs.Account.{blank}
-use Rattle.account.specs.Naming.{rule_named}
+use Rattle.answer_sets.specs.Naming.{rule_named}
 use Rattle.exported.proofs.Refusing.{other_than_none}
 use Rattle.exported.proofs.building.rule_of.Goals as goal
 

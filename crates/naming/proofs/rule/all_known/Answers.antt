@@ -3,7 +3,7 @@ use Rattle.std.specs.List.{AllByRecursion}
 use Rattle.std.proofs.ByRecursion.{All-more}
 use Rattle.std.proofs.lemmas.Bool.Decides.{not_from_Decides}
 use Rattle.answer_sets.proofs.Each.{any_at}
-use Rattle.account.specs.Naming.{Known, Unknown}
+use Rattle.answer_sets.specs.Naming.{Known, Unknown}
 use Rattle.naming.proofs.rule.all_known.Goals as goal
 
 pub returns-then-not-is_known : goal.returns-then-not-is_known

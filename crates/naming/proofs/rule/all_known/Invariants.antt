@@ -1,6 +1,6 @@
 use Rattle.std.proofs.Common.{take}
 use Rattle.std.specs.List.{AllByRecursion}
-use Rattle.account.specs.Naming.{Known}
+use Rattle.answer_sets.specs.Naming.{Known}
 use Rattle.naming.proofs.rule.all_known.Given as goal
 
 abbrev pub invariant-loop-e : goal.invariant-loop-e

@@ -3,7 +3,7 @@ use lib.Seq.{take-length}
 use Rattle.std.proofs.lemmas.List.{take_more, take_more_set, map_push}
 use Rattle.answer_sets.specs.Rules as meant
 use Rattle.rules.specs.Shapes.{entry_of}
-use Rattle.account.specs.Naming.{entry_named}
+use Rattle.answer_sets.specs.Naming.{entry_named}
 use Rattle.naming.proofs.rule.entries_named.Goals as goal
 
 pub loop-i-preserved : goal.loop-i-preserved

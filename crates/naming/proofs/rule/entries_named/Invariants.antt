@@ -1,6 +1,6 @@
 use Rattle.std.proofs.Common.{◌≡◌, map, length, take}
 use Rattle.rules.specs.Shapes.{entry_of}
-use Rattle.account.specs.Naming.{entry_named}
+use Rattle.answer_sets.specs.Naming.{entry_named}
 use Rattle.naming.proofs.rule.entries_named.Given as goal
 
 abbrev pub invariant-loop-i : goal.invariant-loop-i

@@ -2,7 +2,7 @@ use Rattle.std.proofs.Common.{◌≡◌, ℕ, ◌+◌, ◌<◌, List, ◌∷◌,
 use Rattle.std.proofs.lemmas.Bool.Decides.{not_from_Decides}
 use Rattle.banks.specs.Meaning.{Meaning}
 use Rattle.answer_sets.specs.Rules.{Keeps}
-use Rattle.account.specs.Naming.{head_number}
+use Rattle.answer_sets.specs.Naming.{head_number}
 use Rattle.rows.proofs.Listings.{placing_none, placing_rest, placing_before, placing_put, placing_complete, placing_short}
 use Rattle.rules.specs.Shapes.{rule_of, rules_of}
 use Rattle.rules.specs.declared.rule.Rule.{Rule}

@@ -1,5 +1,5 @@
 -- The numbers by which a call names a rule.
-use Rattle.std.specs.Prelude.{◌≡◌, ℕ, ◌%◌, ◌<◌, ◌≤◌, cond, not, ◌⊎◌, List, map, ◌==◌, nat_lt}
+use Rattle.std.specs.Prelude.{◌≡◌, ℕ, ◌+◌, ◌%◌, ◌<◌, ◌≤◌, cond, not, ◌⊎◌, List, map, ◌==◌, nat_lt}
 use Rattle.banks.specs.Meaning.{Meaning}
 use Rattle.answer_sets.specs.Rules.{Head, decision, no_head, Entry, Rule}
 
@@ -18,6 +18,10 @@ head_number no_head = 255
 -- an entry's number is its condition's, and 0x8000 more where "not" stands before it
 abbrev pub entry_named : ℕ → Entry
 entry_named n = record { condition = n % 32768; negated = not (nat_lt n 32768) }
+
+-- the number of an entry: its condition's, which is below 0x8000, and 0x8000 more where "not" stands before it
+abbrev pub entry_number : Entry → ℕ
+entry_number e = e.condition % 32768 + cond e.negated 32768 0
 
 -- an entry's condition is one of the bank's; it is not
 abbrev pub Known : Meaning → ℕ → Type 0
