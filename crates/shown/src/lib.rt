@@ -1,0 +1,4 @@
+// Sets as they are printed.
+#![tactic(auto)]
+
+pub mod braces;
