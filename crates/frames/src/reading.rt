@@ -1,6 +1,7 @@
-ghost use Rattle.std.specs.Prelude.{◌≡◌, [], ◌∷◌, MatchResult};
+ghost use Rattle.std.specs.Prelude.{◌≡◌, [], ◌∷◌, Some, None, MatchResult};
 ghost use Rattle.hexlines.specs.declared.fault.Layer.TheVariants.{Frame as AtFrame};
 ghost use Rattle.refusals.specs.declared.refusal.Refusal.TheVariants.{BadFrame};
+ghost use Rattle.rules.specs.Bytes.{NamesWay};
 ghost use Rattle.frames.specs.Bytes.{in_eight};
 ghost use Rattle.frames.specs.Frames.{Spells, NoFrame};
 ghost use Rattle.frames.specs.Shapes.{frame_of};
@@ -9,6 +10,13 @@ use crate::frame::Frame;
 use hexlines::fault::{Fault, Layer};
 use refusals::refusal::Refusal;
 use rules::way::Way;
+
+// The way that a byte names, or this fault.
+fn way_of(byte: u8, fault: Fault) -> Result<Way, Fault>
+    ensures { MatchResult result (λ way. NamesWay byte (Some way)) (λ e. (e ≡ fault) × NamesWay byte None) }
+{
+    Way::try_from(byte).map_err(|_| fault)
+}
 
 // The number of which these are the bytes, the highest first. They are eight parameters and no array: of an array's items the proof is not
 // told that each is a byte, and did not close.
@@ -38,7 +46,7 @@ pub fn frame_of(bytes: &[u8], line: usize) -> Result<Frame<'_>, Fault>
             entries,
         }),
         [3, way, a, b, c, d, e, f, g, h, ranks @ ..] => {
-            let way = Way::try_from(*way).map_err(|_| fault)?;
+            let way = way_of(*way, fault)?;
             let set = number_of(*a, *b, *c, *d, *e, *f, *g, *h);
             if ranks.len() != set.count_ones() as usize {
                 return Err(fault);
