@@ -1,4 +1,5 @@
 pub mod AtOneSet
 pub mod Passing
+pub mod Each
 pub mod Growing
 pub mod Stamping

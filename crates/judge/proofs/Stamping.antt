@@ -99,19 +99,19 @@ module _ (m : Meaning) (w : Way) (rules : List Rule) (M : ℕ) (M< : M < 2 ^ 64)
       (λ s. sym (round_of_first M M< der (derives_mono m w rules M M<) (derives_inside m w rules M M< kept) d (get_or ranks d 0) s.1 s.2))
       (stamps d l)
 
-  full : ((d : ℕ) → d < 64 → has M d ≡ true → get_or ranks d 0 ≡ 0 → ⊥) → M ⊆ round der 64
+  full : ((d : ℕ) → d ∈ M → get_or ranks d 0 ≡ 0 → ⊥) → M ⊆ round der 64
   full h d i = ⊎_elim
-      (λ s. absurd (h d (member_below 64 M d M< i) i s.0))
+      (λ s. absurd (h d i s.0))
       (λ s. all_rounds M M< der (derives_mono m w rules M M<) (derives_inside m w rules M M< kept) (get_or ranks d 0) d s.1)
       (stamps d (member_below 64 M d M< i))
 
-  pub stamped_rounds : length ranks ≡ 64 → ((d : ℕ) → d < 64 → has M d ≡ true → get_or ranks d 0 ≡ 0 → ⊥) → Rounds m w rules M ranks
+  pub stamped_rounds : length ranks ≡ 64 → ((d : ℕ) → d ∈ M → get_or ranks d 0 ≡ 0 → ⊥) → Rounds m w rules M ranks
   stamped_rounds n h =
       subst (λ (xs : List ℕ). Rounds m w rules M xs) (sym (ranks_are der ranks n is_round))
       (rounds_are m w rules M M< (round_ranks der, bears_of m w rules M M< kept (full h)))
 
-  pub borne_ranked : Borne m w rules M → (d : ℕ) → d < 64 → has M d ≡ true → get_or ranks d 0 ≡ 0 → ⊥
-  borne_ranked b d l i z = ⊎_elim
+  pub borne_ranked : Borne m w rules M → (d : ℕ) → d ∈ M → get_or ranks d 0 ≡ 0 → ⊥
+  borne_ranked b d i z = ⊎_elim
       (λ s. both_ways (has (round der 64) d) (s.1 64 (le_refl 64)) (borne_full m w rules M M< b d i))
       (λ s. both_ways (has (round der 0) d) (none_first der d) (subst (λ (x : ℕ). d ∈ round der x) z s.1))
-      (stamps d l)
+      (stamps d (member_below 64 M d M< i))

@@ -26,10 +26,5 @@ pub fn carried<B: Bank>(bank: &B, way: Way, e: Entry, span: Span) -> bool
 pub fn all_carried<B: Bank>(bank: &B, way: Way, body: &[Entry], span: Span) -> bool
     ensures { Decides result (AllByRecursion (λ e. Carried (B.meaning bank.now) (way_of way) e span.lower span.upper) (map entry_of body.now)) }
 {
-    for e in body {
-        if !carried(bank, way, *e, span) {
-            return false;
-        }
-    }
-    true
+    body.iter().all(|e| carried(bank, way, *e, span))
 }

@@ -1,20 +1,18 @@
 ghost use Rattle.std.specs.Prelude.{◌≡◌, max};
+ghost use Rattle.std.specs.List.{fold};
 ghost use Rattle.answer_sets.specs.Rounds.{depth};
 
-// The higher of two ranks.
-fn higher(rank: u8, other: u8) -> u8
-    ensures { result ≡ max rank other }
+// The highest of 0 and the ranks.
+fn highest(ranks: &[u8]) -> u8
+    ensures { result ≡ fold max 0 ranks.now }
 {
-    if rank < other { other } else { rank }
+    ranks.iter().copied().fold(0, u8::max)
 }
 
 // The highest rank, or 0 where there is none.
+#[tactic(auto, using(crate::proofs::Passing::depth_is))]
 pub fn depth_of(ranks: &[u8]) -> u8
     ensures { result ≡ depth ranks.now }
 {
-    let mut highest = 0;
-    for rank in ranks {
-        highest = higher(highest, *rank);
-    }
-    highest
+    highest(ranks)
 }

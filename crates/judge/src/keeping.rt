@@ -29,12 +29,7 @@ pub fn holds_at<B: Bank>(bank: &B, e: Entry, set: Set) -> bool
 fn body_holds<B: Bank>(bank: &B, body: &[Entry], set: Set) -> bool
     ensures { Decides result (AllByRecursion (λ e. holds (B.meaning bank.now) e set ≡ true) (map entry_of body.now)) }
 {
-    for e in body {
-        if !holds_at(bank, *e, set) {
-            return false;
-        }
-    }
-    true
+    body.iter().all(|e| holds_at(bank, *e, set))
 }
 
 // Whether some entry of a body fails at a set.
@@ -48,20 +43,14 @@ fn body_fails<B: Bank>(bank: &B, body: &[Entry], set: Set) -> bool
 fn head_in(head: Head, set: Set) -> bool
     ensures { Decides result (HeadIn (head_of head) set) }
 {
-    match head {
-        Head::Takes(d) => contains(set, d),
-        Head::Absent => false,
-    }
+    head.is_some_and(|d| contains(set, d))
 }
 
 // Whether a set keeps a rule.
 pub fn keeps<B: Bank>(bank: &B, rule: &Rule, set: Set) -> bool
     ensures { Decides result (Keeps (B.meaning bank.now) set (rule_of rule.now)) }
 {
-    if head_in(rule.head(), set) {
-        return true;
-    }
-    body_fails(bank, rule.body(), set)
+    head_in(rule.head(), set) || body_fails(bank, rule.body(), set)
 }
 
 // The lowest rule that a set breaks, if it breaks one.
@@ -75,12 +64,7 @@ pub fn lowest_broken<B: Bank>(bank: &B, rules: &[Rule], set: Set) -> Option<usiz
         × HoldsAt (λ x. Keeps (B.meaning bank.now) set (rule_of x) → ⊥) rules.now i
         × ((j : ℕ) → j < i → HoldsAt (λ x. Keeps (B.meaning bank.now) set (rule_of x)) rules.now j)) }
 {
-    for i in 0..rules.len() {
-        if !keeps(bank, &rules[i], set) {
-            return Some(i);
-        }
-    }
-    None
+    rules.iter().position(|rule| !keeps(bank, rule, set))
 }
 
 // Whether a set keeps every rule.

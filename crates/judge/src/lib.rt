@@ -5,7 +5,9 @@ pub mod bearing;
 pub mod carrying;
 pub mod depth;
 pub mod keeping;
+pub mod program;
 pub mod ranking;
+pub mod ranks;
 pub mod rounding;
 #[cfg(test)]
 mod tests;

@@ -1,11 +1,10 @@
-use crate::bearing::bears;
 use crate::keeping::{keeps_all, lowest_broken};
-use crate::ranking::rank_set;
+use crate::program::Program;
+use crate::ranks::Ranks;
 use banks::bank::Bank;
 use listed::bank::ListedBank;
 use listed::condition::ListedCondition;
 use rules::entry::Entry;
-use rules::head::Head;
 use rules::rule::Rule;
 use rules::way::Way;
 use sets::decision::Decision;
@@ -47,11 +46,7 @@ fn bank() -> ListedBank<'static> {
 
 // A rule for a decision, or with no head for a number that is no decision's.
 fn rule(place: u8, body: &[Entry]) -> Option<Rule> {
-    let head = match Decision::new(place) {
-        Some(d) => Head::Takes(d),
-        None => Head::Absent,
-    };
-    Rule::new(head, body)
+    Rule::new(Decision::new(place), body)
 }
 
 // Decisions 0 and 1 are given, 2 follows from 3, and 3 unless at most two of 0, 1 and 2 are there.
@@ -64,15 +59,21 @@ fn counted() -> Option<[Rule; 4]> {
     ])
 }
 
+fn program<'a>(
+    bank: &'a ListedBank<'static>,
+    way: Way,
+    rules: &'a [Rule],
+) -> Program<'a, ListedBank<'static>> {
+    Program { bank, way, rules }
+}
+
 // The first four ranks.
-fn check_ranks(rt: &impl Abort, ranks: Option<[u8; 64]>, first: [u8; 4]) -> Result<(), Fail> {
+fn check_ranks(rt: &impl Abort, ranks: Option<Ranks>, first: [u8; 4]) -> Result<(), Fail> {
     let Some(found) = ranks else {
         assert!(rt; false);
         return Ok(());
     };
-    for d in 0..4usize {
-        assert_eq!(rt; found[d], first[d]);
-    }
+    assert!(rt; found.as_slice().starts_with(&first));
     Ok(())
 }
 
@@ -83,22 +84,12 @@ fn a_count_said_with_not(rt: HostRuntime) -> Result<(), Fail> {
         assert!(rt; false);
         return Ok(());
     };
-    check_ranks(
-        &rt,
-        rank_set(&bank, Way::Reduct, &rules, 0b0011),
-        [1, 1, 0, 0],
-    )?;
-    check_ranks(
-        &rt,
-        rank_set(&bank, Way::Complement, &rules, 0b0011),
-        [1, 1, 0, 0],
-    )?;
-    check_ranks(
-        &rt,
-        rank_set(&bank, Way::Reduct, &rules, 0b1111),
-        [1, 1, 2, 1],
-    )?;
-    assert!(rt; rank_set(&bank, Way::Complement, &rules, 0b1111).is_none());
+    let reduct = program(&bank, Way::Reduct, &rules);
+    let complement = program(&bank, Way::Complement, &rules);
+    check_ranks(&rt, reduct.rank_set(0b0011), [1, 1, 0, 0])?;
+    check_ranks(&rt, complement.rank_set(0b0011), [1, 1, 0, 0])?;
+    check_ranks(&rt, reduct.rank_set(0b1111), [1, 1, 2, 1])?;
+    assert!(rt; complement.rank_set(0b1111).is_none());
     Ok(())
 }
 
@@ -114,11 +105,13 @@ fn ranks_that_bear_and_ranks_that_do_not(rt: HostRuntime) -> Result<(), Fail> {
     ranks[1] = 1;
     ranks[2] = 200;
     ranks[3] = 7;
-    assert!(rt; bears(&bank, Way::Reduct, &rules, 0b1111, &ranks));
-    assert!(rt; !bears(&bank, Way::Complement, &rules, 0b1111, &ranks));
-    assert!(rt; !bears(&bank, Way::Reduct, &rules, 0b0111, &ranks));
+    let reduct = program(&bank, Way::Reduct, &rules);
+    let complement = program(&bank, Way::Complement, &rules);
+    assert!(rt; reduct.bears(0b1111, &ranks));
+    assert!(rt; !complement.bears(0b1111, &ranks));
+    assert!(rt; !reduct.bears(0b0111, &ranks));
     ranks[2] = 7;
-    assert!(rt; !bears(&bank, Way::Reduct, &rules, 0b1111, &ranks));
+    assert!(rt; !reduct.bears(0b1111, &ranks));
     Ok(())
 }
 

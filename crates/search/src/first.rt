@@ -5,9 +5,7 @@ ghost use Rattle.search.specs.Ahead.{to_come, Stops};
 
 use banks::bank::Bank;
 use judge::keeping::keeps;
-use judge::ranking::rank_set;
-use rules::rule::Rule;
-use rules::way::Way;
+use judge::program::Program;
 use sets::set::Set;
 use sets::walk::Walk;
 
@@ -28,16 +26,16 @@ fn one_more(tried: usize) -> usize
 }
 
 // Whether some ranks bear a set.
-fn is_borne<B: Bank>(bank: &B, way: Way, rules: &[Rule], set: Set) -> bool
-    ensures { Decides result (Borne (B.meaning bank.now) (way_of way) (rules_of rules.now) set) }
+fn is_borne<B: Bank>(program: &Program<B>, set: Set) -> bool
+    ensures { Decides result (Borne (B.meaning program.now.bank.now) (way_of program.now.way) (rules_of program.now.rules.now) set) }
 {
-    rank_set(bank, way, rules, set).is_some()
+    program.rank_set(set).is_some()
 }
 
 // Goes on to the first set that some ranks bear. A set is left at the first rule that it breaks; rounds are computed only of one that breaks none.
-pub(crate) fn first_borne<B: Bank>(bank: &B, way: Way, rules: &[Rule], from: Option<Walk>) -> Stop
+pub(crate) fn first_borne<B: Bank>(program: &Program<B>, from: Option<Walk>) -> Stop
     requires { length (to_come from) ≤ 65536 }
-    ensures { Stops (B.meaning bank.now) (way_of way) (rules_of rules.now) (to_come from) result }
+    ensures { Stops (B.meaning program.now.bank.now) (way_of program.now.way) (rules_of program.now.rules.now) (to_come from) result }
 {
     let mut ahead = from;
     let mut tried = 0;
@@ -48,12 +46,12 @@ pub(crate) fn first_borne<B: Bank>(bank: &B, way: Way, rules: &[Rule], from: Opt
         ahead = walk.next();
         tried = one_more(tried);
         let set = walk.set();
-        for rule in rules {
-            if !keeps(bank, rule, set) {
+        for rule in program.rules {
+            if !keeps(program.bank, rule, set) {
                 continue 'sets;
             }
         }
-        if is_borne(bank, way, rules, set) {
+        if is_borne(program, set) {
             break 'sets Some(set);
         }
     };

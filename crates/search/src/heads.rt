@@ -16,8 +16,8 @@ fn with_head(set: Set, head: Head) -> Set
     ensures { (d : ℕ) → (d ∈ result) ↔ ((d ∈ set) ⊎ (head_of head ≡ decision d)) }
 {
     match head {
-        Head::Takes(d) => with(set, d),
-        Head::Absent => set,
+        Some(d) => with(set, d),
+        None => set,
     }
 }
 
