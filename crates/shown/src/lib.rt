@@ -1,4 +1,5 @@
-// Sets as they are printed.
+// Sets and ranks as they are printed.
 #![tactic(auto)]
 
 pub mod braces;
+pub mod ranked;
