@@ -1,16 +1,14 @@
 -- Chains over the decisions of a set.
-use Rattle.std.proofs.Common.{◌≡◌, ℕ, zero, suc, ◌+◌, ◌^◌, ◌<◌, ◌≤◌, Bool, true, false, cond, not, ◌&&◌, ◌||◌, eqb, List, [], ◌∷◌, ◌++◌, length, get_or, set, filter, Decides, Option, sym, refl, ap, ◌∙◌, subst, ap₂, ⊎_elim, arith, MatchOption}
-use lib.Bits.{bit_or}
+use Rattle.std.proofs.Common.{◌≡◌, ℕ, zero, suc, ◌^◌, ◌<◌, Bool, true, false, cond, ◌&&◌, ◌||◌, eqb, List, [], ◌∷◌, ◌++◌, length, get_or, set, filter, Decides, Option, refl, ap, ◌∙◌, subst, arith, MatchOption}
 use Rattle.std.specs.Bool.{MatchBool}
 use Rattle.std.specs.List.{HoldsAt, AllWithin, fold}
 use Rattle.std.proofs.lemmas.Iterator.{YieldsList}
 use Rattle.std.proofs.lemmas.Iterator.Consumers.{YieldsList-from_shown}
 use Rattle.std.proofs.lemmas.List.Elements.{filter-append}
 use Rattle.std.proofs.lemmas.List.Sums.{fold-append}
-use Rattle.std.proofs.lemmas.Bool.{both_ways, cases_Bool, and_from, and_left, and_right}
+use Rattle.std.proofs.lemmas.Bool.{both_ways, and_from, and_left, and_right}
 use Rattle.std.proofs.lemmas.Bool.Decides.{Decides-below_and, nat_tests}
 use Rattle.std.proofs.lemmas.Grind.{common_steps}
-use Rattle.answer_sets.specs.Rules.{Ranked, rank}
 use Rattle.sets.specs.Sets.{has, ◌∈◌, ◌∪◌, single, collect}
 use Rattle.sets.specs.Lists.{member}
 use Rattle.sets.specs.Walks.{decisions, decisions_below}

@@ -45,7 +45,7 @@ module _ {X Y : Type 0} (f : X → Y) (P : Y → Type 0) where
         (recursion_from_All (λ x. P (f x) → ⊥) xs (All-from_all_within (λ x. P (f x) → ⊥) xs h))),
   )
 
--- ---- what `position` answers, where it looks for what fails
+  -- ---- what `position` answers, where it looks for what fails
 
   -- the first place that fails, or all pass
   abbrev pub FirstFailing : List X → Option ℕ → Type 0

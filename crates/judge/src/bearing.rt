@@ -9,7 +9,6 @@ use crate::program::Program;
 use crate::ranks::Ranks;
 use banks::bank::Bank;
 use rules::rule::Rule;
-use rules::way::Way;
 use sets::decision::Decision;
 use sets::decisions::Decisions;
 use sets::set::Set;

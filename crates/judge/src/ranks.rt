@@ -1,4 +1,5 @@
 ghost use Rattle.std.specs.Prelude.{◌≡◌, ℕ, ◌<◌, ◌≤◌, ◌&&◌, length, replicate, if◌then◌else◌, Decides, ◌≢◌, nat_eq, nat_lt, slice_index, slice_set};
+ghost use Rattle.std.specs.Bool.{MatchBool};
 ghost use Rattle.sets.specs.Sets.{has, ◌∈◌, ◌∉◌};
 ghost use Rattle.answer_sets.specs.Rules.{Ranked, rank, below};
 
@@ -61,14 +62,15 @@ impl Ranks {
     pub fn of(&self, d: Decision) -> u8
         ensures { result ≡ rank self.now.bytes d.place }
     {
-        self.bytes[d.place() as usize]
+        self.bytes[usize::from(d.place())]
     }
 
     // Gives a rank to a decision.
     pub fn give(&mut self, d: Decision, rank: u8)
         ensures { self.new.bytes ≡ slice_set self.old.bytes d.place rank }
     {
-        self.bytes[d.place() as usize] = rank;
+        let at = usize::from(d.place());
+        self.bytes[at] = rank;
     }
 
     // The ranks as bytes, by the numbers of the decisions.
@@ -78,13 +80,20 @@ impl Ranks {
         &self.bytes
     }
 
+    // Whether a decision has a rank.
+    fn is_ranked(&self, d: Decision) -> bool
+        ensures { MatchBool result ((1 ≤ rank self.now.bytes d.place) × (rank self.now.bytes d.place ≤ 255)) (rank self.now.bytes d.place ≡ 0) }
+    {
+        self.of(d) != 0
+    }
+
     // Whether a decision has a rank exactly where the set has it.
     fn fits_at(&self, set: Set, d: Decision) -> bool
         ensures { Decides result
             ((d.place ∉ set → rank self.now.bytes d.place ≡ 0)
             × (d.place ∈ set → (1 ≤ rank self.now.bytes d.place) × (rank self.now.bytes d.place ≤ 255))) }
     {
-        contains(set, d) == (self.of(d) != 0)
+        contains(set, d) == self.is_ranked(d)
     }
 
     // Whether the ranks are zero outside the set and not zero inside it.
@@ -98,7 +107,7 @@ impl Ranks {
     pub(crate) fn covers(&self, set: Set) -> bool
         ensures { Decides result ((d : ℕ) → d ∈ set → rank self.now.bytes d ≢ 0) }
     {
-        Decisions::of(set).all(|d| self.of(d) != 0)
+        Decisions::of(set).all(|d| self.is_ranked(d))
     }
 
     // Whether a decision has a lower rank than another.

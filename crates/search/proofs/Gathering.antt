@@ -15,7 +15,6 @@ use Rattle.answer_sets.proofs.Answer.{borne_is_answer_set}
 use Rattle.answer_sets.proofs.Bearing.{borneb_sound, borneb_complete}
 use Rattle.answer_sets.proofs.Each.{all_zip, all_left, all_right}
 use Rattle.rows.specs.Listings.{Lists}
-use Rattle.rows.specs.declared.listing.Ending.{Ending}
 use Rattle.rows.specs.declared.listing.Listing.{Listing}
 use Rattle.search.specs.Search.{Heads, candidates}
 use Rattle.search.specs.Gathering.{Gathered, Gathers}
@@ -105,6 +104,6 @@ gathers_of m w rules start walk before after answer d l = record {
   listed = subst (λ (xs : List ℕ). Lists (borne_of m w rules xs) before answer after) d.coming l;
 }
 
-pub ends_as : {items before after : List ℕ} {n : ℕ} {e f : Ending ℕ} → e ≡ f → Lists items before (record { placed = n; ending = f }) after
-    → Lists items before (record { placed = n; ending = e }) after
-ends_as {items} {before} {after} {n} q l = subst (λ (x : Ending ℕ). Lists items before (record { placed = n; ending = x }) after) (sym q) l
+pub ends_as : {items before after : List ℕ} {n : ℕ} {e f : Option ℕ} → e ≡ f → Lists items before (record { placed = n; unplaced = f }) after
+    → Lists items before (record { placed = n; unplaced = e }) after
+ends_as {items} {before} {after} {n} q l = subst (λ (x : Option ℕ). Lists items before (record { placed = n; unplaced = x }) after) (sym q) l

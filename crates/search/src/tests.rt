@@ -1,11 +1,10 @@
 use crate::gather::gather_sets;
 use crate::next::next_set;
+use judge::program::Program;
 use listed::bank::ListedBank;
 use listed::condition::ListedCondition;
 use refusals::refusal::Refusal;
-use rows::listing::Ending;
 use rules::entry::Entry;
-use rules::head::Head;
 use rules::rule::Rule;
 use rules::way::Way;
 use sets::decision::Decision;
@@ -49,11 +48,15 @@ fn not(condition: u16) -> Entry {
 
 // A rule for a decision, or with no head for a number that is no decision's.
 fn rule(place: u8, body: &[Entry]) -> Option<Rule> {
-    let head = match Decision::new(place) {
-        Some(d) => Head::Takes(d),
-        None => Head::Absent,
-    };
-    Rule::new(head, body)
+    Rule::new(Decision::new(place), body)
+}
+
+fn program<'a>(
+    bank: &'a ListedBank<'static>,
+    way: Way,
+    rules: &'a [Rule],
+) -> Program<'a, ListedBank<'static>> {
+    Program { bank, way, rules }
 }
 
 fn both(first: Option<Rule>, second: Option<Rule>) -> Option<[Rule; 2]> {
@@ -75,13 +78,6 @@ fn check_found(
     Ok(())
 }
 
-fn is_complete(ending: Ending<Set>) -> bool {
-    match ending {
-        Ending::Complete => true,
-        Ending::NoPlace(_) => false,
-    }
-}
-
 fn check_refused(
     rt: &impl Abort,
     answer: Result<(Set, usize), Refusal>,
@@ -100,8 +96,8 @@ fn check_refused(
 // Rules that give the decisions 0 to 16.
 fn seventeen() -> Option<[Rule; 17]> {
     let mut rules = [rule(0, &[])?; 17];
-    for d in 1..17u8 {
-        rules[d as usize] = rule(d, &[])?;
+    for (place, one) in (0..17u8).zip(&mut rules) {
+        *one = rule(place, &[])?;
     }
     Some(rules)
 }
@@ -115,11 +111,16 @@ fn seventeen_heads_are_too_many(rt: HostRuntime) -> Result<(), Fail> {
     };
     check_found(
         &rt,
-        next_set(&bank, Way::Reduct, &rules[0..16], 0),
+        next_set(&program(&bank, Way::Reduct, &rules[0..16]), 0),
         65535,
         65536,
     )?;
-    check_refused(&rt, next_set(&bank, Way::Reduct, &rules, 0), 27, None)
+    check_refused(
+        &rt,
+        next_set(&program(&bank, Way::Reduct, &rules), 0),
+        27,
+        None,
+    )
 }
 
 #[test]
@@ -132,11 +133,11 @@ fn not_both_or_neither(rt: HostRuntime) -> Result<(), Fail> {
     let rules = [only];
     check_refused(
         &rt,
-        next_set(&bank, Way::Complement, &rules, 1),
+        next_set(&program(&bank, Way::Complement, &rules), 1),
         28,
         Some(1),
     )?;
-    check_found(&rt, next_set(&bank, Way::Reduct, &rules, 1), 1, 1)
+    check_found(&rt, next_set(&program(&bank, Way::Reduct, &rules), 1), 1, 1)
 }
 
 #[test]
@@ -147,8 +148,18 @@ fn a_rule_against_itself(rt: HostRuntime) -> Result<(), Fail> {
         return Ok(());
     };
     let rules = [only];
-    check_refused(&rt, next_set(&bank, Way::Reduct, &rules, 0), 28, Some(2))?;
-    check_refused(&rt, next_set(&bank, Way::Reduct, &rules, 2), 28, Some(0))
+    check_refused(
+        &rt,
+        next_set(&program(&bank, Way::Reduct, &rules), 0),
+        28,
+        Some(2),
+    )?;
+    check_refused(
+        &rt,
+        next_set(&program(&bank, Way::Reduct, &rules), 2),
+        28,
+        Some(0),
+    )
 }
 
 #[test]
@@ -159,12 +170,27 @@ fn the_highest_decision_and_the_highest_start(rt: HostRuntime) -> Result<(), Fai
         return Ok(());
     };
     let full: Set = 0x8000_0000_0000_0001;
-    check_found(&rt, next_set(&bank, Way::Complement, &rules, 0), full, 4)?;
-    check_found(&rt, next_set(&bank, Way::Complement, &rules, 2), full, 2)?;
-    check_found(&rt, next_set(&bank, Way::Complement, &rules, full), full, 1)?;
+    check_found(
+        &rt,
+        next_set(&program(&bank, Way::Complement, &rules), 0),
+        full,
+        4,
+    )?;
+    check_found(
+        &rt,
+        next_set(&program(&bank, Way::Complement, &rules), 2),
+        full,
+        2,
+    )?;
+    check_found(
+        &rt,
+        next_set(&program(&bank, Way::Complement, &rules), full),
+        full,
+        1,
+    )?;
     check_refused(
         &rt,
-        next_set(&bank, Way::Complement, &rules, u64::MAX),
+        next_set(&program(&bank, Way::Complement, &rules), u64::MAX),
         28,
         Some(0),
     )
@@ -178,26 +204,18 @@ fn two_sets_are_gathered(rt: HostRuntime) -> Result<(), Fail> {
         return Ok(());
     };
     let mut places = [7; 3];
-    let Ok(all) = gather_sets(&bank, Way::Reduct, &rules, 0, &mut places) else {
+    let Ok(all) = gather_sets(&program(&bank, Way::Reduct, &rules), 0, &mut places) else {
         assert!(rt; false);
         return Ok(());
     };
     assert_eq!(rt; all.placed, 2);
-    assert!(rt; is_complete(all.ending));
+    assert_eq!(rt; all.unplaced, None);
     assert!(rt; places == [1, 2, 7]);
-    let Ok(some) = gather_sets(&bank, Way::Reduct, &rules, 0, &mut places[0..1]) else {
+    let Ok(some) = gather_sets(&program(&bank, Way::Reduct, &rules), 0, &mut places[0..1]) else {
         assert!(rt; false);
         return Ok(());
     };
     assert_eq!(rt; some.placed, 1);
-    match some.ending {
-        Ending::Complete => {
-            assert!(rt; false);
-            Ok(())
-        },
-        Ending::NoPlace(set) => {
-            assert_eq!(rt; set, 2);
-            Ok(())
-        },
-    }
+    assert_eq!(rt; some.unplaced, Some(2));
+    Ok(())
 }

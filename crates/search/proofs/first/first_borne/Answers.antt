@@ -1,4 +1,4 @@
-use Rattle.std.proofs.Common.{ℕ, ◌+◌, false, List, [], ◌∷◌, ◌++◌, sym, refl, ap, ◌∙◌, subst, arith}
+use Rattle.std.proofs.Common.{ℕ, ◌+◌, List, [], ◌∷◌, ◌++◌, sym, refl, ap, ◌∙◌, subst, arith}
 use Rattle.std.proofs.lemmas.Bool.Decides.{not_from_Decides}
 use Rattle.answer_sets.specs.Rules.{Keeps, Borne}
 use Rattle.judge.proofs.Passing.{fails}
@@ -12,31 +12,31 @@ sets-init g c = ([], refl, refl, tt)
 
 pub one_more-tried-requires : goal.one_more-tried-requires
 one_more-tried-requires g c =
-    let m = g.B.Bank.meaning c.args.bank.now in
-    let P : ℕ → Type 0 = λ n. Borne m (way_of c.args.way) (rules_of c.args.rules.now) n → ⊥ in
+    let m = g.B.Bank.meaning c.args.program.now.bank.now in
+    let P : ℕ → Type 0 = λ n. Borne m (way_of c.args.program.now.way) (rules_of c.args.program.now.rules.now) n → ⊥ in
     omega (arith, passed_fewer P (to_come_step c.next-ahead.result c.in-Some.is c.next-ahead.ensures) c.sets.invariant)
 
 pub sets-preserved-then-not-keeps : goal.sets-preserved-then-not-keeps
 sets-preserved-then-not-keeps g c =
-    let m = g.B.Bank.meaning c.args.bank.now in
-    let P : ℕ → Type 0 = λ n. Borne m (way_of c.args.way) (rules_of c.args.rules.now) n → ⊥ in
+    let m = g.B.Bank.meaning c.args.program.now.bank.now in
+    let P : ℕ → Type 0 = λ n. Borne m (way_of c.args.program.now.way) (rules_of c.args.program.now.rules.now) n → ⊥ in
     let s = c.set-set.result in let x = c.rule-item.result in
-    let broken = fails rule_of (Keeps m s) c.args.rules.now c.loop-rule.rule-index x x c.keeps.result
-    c.loop-rule-test.true c.rule-item.is c.keeps.ensures c.if-not-keeps.true in
+    let broken = fails rule_of (Keeps m s) c.args.program.now.rules.now c.loop-rule.rule-index x x
+    c.loop-rule-test.true c.rule-item.is (not_from_Decides c.keeps.result c.keeps.ensures c.if-not-keeps.true) in
     passed_more P (to_come_step c.next-ahead.result c.in-Some.is c.next-ahead.ensures) c.one_more-tried.ensures
-    (subst P c.set-set.ensures (λ b. not_from_Decides false broken refl b.1.kept)) c.sets.invariant
+    (subst P c.set-set.ensures (λ b. broken b.1.kept)) c.sets.invariant
 
 pub sets-preserved : goal.sets-preserved
 sets-preserved g c =
-    let m = g.B.Bank.meaning c.args.bank.now in
-    let P : ℕ → Type 0 = λ n. Borne m (way_of c.args.way) (rules_of c.args.rules.now) n → ⊥ in
+    let m = g.B.Bank.meaning c.args.program.now.bank.now in
+    let P : ℕ → Type 0 = λ n. Borne m (way_of c.args.program.now.way) (rules_of c.args.program.now.rules.now) n → ⊥ in
     passed_more P (to_come_step c.next-ahead.result c.in-Some.is c.next-ahead.ensures) c.one_more-tried.ensures
     (subst P c.set-set.ensures (not_from_Decides c.is_borne.result c.is_borne.ensures c.if-is_borne.false)) c.sets.invariant
 
 pub returns-in_default : goal.returns-in_default
 returns-in_default g c =
-    let m = g.B.Bank.meaning c.args.bank.now in
-    let P : ℕ → Type 0 = λ n. Borne m (way_of c.args.way) (rules_of c.args.rules.now) n → ⊥ in
+    let m = g.B.Bank.meaning c.args.program.now.bank.now in
+    let P : ℕ → Type 0 = λ n. Borne m (way_of c.args.program.now.way) (rules_of c.args.program.now.rules.now) n → ⊥ in
     let k = passed_all P (ap to_come c.in_default.is) c.sets.invariant in
     record { count = k.0; none = k.1 }
 

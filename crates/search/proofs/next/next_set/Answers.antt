@@ -14,7 +14,7 @@ first_borne-stop-requires g c =
 
 pub returns-in-Some : goal.returns-in-Some
 returns-in-Some g c =
-    let m = g.B.Bank.meaning c.args.bank.now in let w = way_of c.args.way in let rs = rules_of c.args.rules.now in
+    let m = g.B.Bank.meaning c.args.program.now.bank.now in let w = way_of c.args.program.now.way in let rs = rules_of c.args.program.now.rules.now in
     let d = c.in_ok-from.ensures in let s = c.in-Some.set in let stop = c.first_borne-stop.result in
     let coming = to_come c.in_ok-from.from in
     let k = MatchOption-at_some (NoneBorne m w rs coming stop.tried) (FirstBorne m w rs coming (to_come stop.ahead) stop.tried) s c.in-Some.is c.first_borne-stop.ensures in
@@ -36,7 +36,7 @@ returns-in-Some g c =
 
 pub returns-in-None : goal.returns-in-None
 returns-in-None g c =
-    let m = g.B.Bank.meaning c.args.bank.now in let w = way_of c.args.way in let rs = rules_of c.args.rules.now in
+    let m = g.B.Bank.meaning c.args.program.now.bank.now in let w = way_of c.args.program.now.way in let rs = rules_of c.args.program.now.rules.now in
     let d = c.in_ok-from.ensures in let stop = c.first_borne-stop.result in
     let coming = to_come c.in_ok-from.from in
     let k = MatchOption-at_none (NoneBorne m w rs coming stop.tried) (FirstBorne m w rs coming (to_come stop.ahead) stop.tried) c.in-None.is c.first_borne-stop.ensures in

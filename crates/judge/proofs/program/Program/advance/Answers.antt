@@ -10,8 +10,7 @@ use Rattle.rules.specs.declared.rule.Rule.{Rule}
 use Rattle.judge.specs.Reached.{GivenBy}
 use Rattle.judge.proofs.Passing.{fails, all_mapped}
 use Rattle.judge.proofs.Growing.{given_more, grown_has, grown_none, grown_not, grown_with}
-use Rattle.std.proofs.lemmas.List.Elements.{All-from_recursion, recursion_from_All, All-more}
-use Rattle.answer_sets.proofs.Each.{all_of_map, all_to_map}
+use Rattle.std.proofs.lemmas.List.Elements.{All-more}
 use Rattle.judge.proofs.program.Program.advance.Goals as goal
 
 abbrev blank : Entry

@@ -1,4 +1,4 @@
-use Rattle.std.proofs.Common.{◌≡◌, ℕ, Bool, ltb, rules, tests, ◌∙◌}
+use Rattle.std.proofs.Common.{ℕ, Bool, ltb, rules, tests, ◌∙◌}
 use Rattle.std.proofs.lemmas.Iterator.Consumers.{YieldsList-from_filter, YieldsList-at, fold_from_yields_List}
 use Rattle.sets.specs.Sets.{◌∪◌, single}
 use Rattle.answer_sets.specs.Rules.{rank}
