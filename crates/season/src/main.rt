@@ -113,30 +113,55 @@ fn unlike() -> Option<[Rule; 1]> {
     Some([when(0, 2, true)?])
 }
 
-// Some rules, read by one way.
-fn read<'a>(bank: &'a House, way: Way, rules: &'a [Rule]) -> Program<'a, House> {
-    Program { bank, way, rules }
+// Some sets under rules that are read by one way.
+fn judged_all(rt: &impl Print, program: &Program<House>, sets: &[Set]) -> io::Result<()> {
+    for set in sets {
+        judged(rt, program, *set)?;
+    }
+    Ok(())
 }
 
-fn rulings(rt: &impl Print, bank: &House) -> io::Result<()> {
+fn chain_judged(rt: &impl Print, bank: &House) -> io::Result<()> {
     let Some(rules) = chain() else {
         return Ok(());
     };
     println!(rt; "decision 0; decision 1 when condition 0")?;
-    judged(rt, &read(bank, Way::Reduct, &rules), 0b11)?;
-    judged(rt, &read(bank, Way::Reduct, &rules), 0b01)?;
+    let program = Program {
+        bank,
+        way: Way::Reduct,
+        rules: &rules,
+    };
+    judged_all(rt, &program, &[0b11, 0b01])
+}
+
+fn ring_judged(rt: &impl Print, bank: &House) -> io::Result<()> {
     let Some(rules) = ring() else {
         return Ok(());
     };
     println!(rt; "decision 0 when condition 1; decision 1 when condition 0")?;
-    judged(rt, &read(bank, Way::Reduct, &rules), 0b11)?;
-    judged(rt, &read(bank, Way::Reduct, &rules), 0b00)?;
+    let program = Program {
+        bank,
+        way: Way::Reduct,
+        rules: &rules,
+    };
+    judged_all(rt, &program, &[0b11, 0b00])
+}
+
+// By both ways.
+fn unlike_judged(rt: &impl Print, bank: &House) -> io::Result<()> {
     let Some(rules) = unlike() else {
         return Ok(());
     };
     println!(rt; "decision 0 when not condition 2")?;
-    judged(rt, &read(bank, Way::Reduct, &rules), 0b01)?;
-    judged(rt, &read(bank, Way::Complement, &rules), 0b01)
+    for way in [Way::Reduct, Way::Complement] {
+        let program = Program {
+            bank,
+            way,
+            rules: &rules,
+        };
+        judged(rt, &program, 0b01)?;
+    }
+    Ok(())
 }
 
 fn main(rt: HostRuntime) -> io::Result<()> {
@@ -150,5 +175,7 @@ fn main(rt: HostRuntime) -> io::Result<()> {
     let mut kilos = WeighedBank::<Kilo>::new();
     let load = kilos.load(&HEAVY, &HEAVY_WEIGHTS);
     loaded(&rt, "a weight of 1000001 kilos", load, kilos.count())?;
-    rulings(&rt, &house)
+    chain_judged(&rt, &house)?;
+    ring_judged(&rt, &house)?;
+    unlike_judged(&rt, &house)
 }
