@@ -18,7 +18,7 @@ pages_agree [] ls ms h = refl
 pages_agree (p ∷ ps) ls ms h =
     let here : take p.rules ls ≡ take p.rules ms = h 0 (omega arith) in
     let rest : map (page_of ls) ps ≡ map (page_of ms) ps = pages_agree ps ls ms (λ k l. h (suc k) (omega arith)) in
-    let paged : List meant.Rule → plain.Page = λ c. record { way = way_of p.way; «set» = p.«set»; ranks = p.ranks; rules = c } in
+    let paged : List meant.Rule → plain.Page = λ c. record { way = way_of p.way; «set» = p.«set»; ranks = p.ranks.bytes; rules = c } in
     ap (λ c. paged c ∷ map (page_of ls) ps) here
     ∙ ap (λ t. page_of ms p ∷ t) rest
 
@@ -40,11 +40,6 @@ pages_take ps ls n v = pages_agree ps (take n ls) ls (λ k h.
 
 pub level_up : (ns : List ℕ) (m n : ℕ) → m ≤ n → Level ns m → Level ns n
 level_up ns m n l v = (omega arith, v.1)
-
--- a list that was pushed to, or not, is no shorter
-pub grows : {X : Type 0} (b : Bool) (xs ys : List X) (x : X) → ys ≡ cond b (xs ++ x ∷ []) xs → length xs ≤ length ys
-grows true xs ys x e = let l = length_push xs x in let f = ap length e in omega arith
-grows false xs ys x e = let f = ap length e in omega arith
 
 -- how many rules each page's copy has
 abbrev pub lens : List plain.Page → List ℕ

@@ -54,7 +54,10 @@ fn pages(book: &Listed) -> usize {
 }
 
 fn look_at(book: &Listed) -> Seen {
-    let mut places = [Breach { rule: 0, head: None }; 4];
+    let mut places = [Breach {
+        rule: 0,
+        head: None,
+    }; 4];
     let listing = book.breaches(0, &mut places);
     let mut memory = [0u8; 64];
     let _ = book.page(0, &mut memory);
@@ -75,7 +78,10 @@ fn check_refused(
     number: u8,
     told: Option<usize>,
 ) {
-    assert_eq!(rt; answer.map_err(|refusal| (refusal.number(), refusal.told())), Err((number, told)));
+    assert_eq!(rt;
+        answer.map_err(|refusal| (refusal.number(), refusal.told())),
+        Err((number, told))
+    );
     assert_eq!(rt; look_at(book), before);
 }
 
@@ -188,7 +194,10 @@ fn no_page_shown(rt: HostRuntime) {
     let mut memory = [7u8; 64];
     assert_eq!(rt; book.page(1, &mut memory).map_err(Refusal::number), Err(31));
     let answer = book.page(1, &mut memory[0..63]);
-    assert_eq!(rt; answer.map_err(|refusal| (refusal.number(), refusal.told())), Err((30, Some(64))));
+    assert_eq!(rt;
+        answer.map_err(|refusal| (refusal.number(), refusal.told())),
+        Err((30, Some(64)))
+    );
     assert_eq!(rt; memory[0], 7);
     assert_eq!(rt; memory[62], 7);
 }
@@ -207,6 +216,12 @@ fn breaches_in_one_place(rt: HostRuntime) {
     assert_eq!(rt; places[0].rule, 0);
     assert_eq!(rt; head_number(places[0].head), 0);
     assert_eq!(rt; places[1].rule, 9);
-    assert_eq!(rt; listing.unplaced, Some(Breach { rule: 2, head: None }));
+    assert_eq!(rt;
+        listing.unplaced,
+        Some(Breach {
+            rule: 2,
+            head: None
+        })
+    );
     assert_eq!(rt; head_number(None), 255);
 }

@@ -24,6 +24,29 @@ fn breach(number: usize, rule: &Rule) -> Breach
     }
 }
 
+// Puts the rules that a set breaks into an empty list, lowest first, up to the first that finds no place.
+fn put_breaches<B: Bank>(
+    list: &mut LentList<Breach>,
+    bank: &B,
+    rules: &[Rule],
+    set: Set,
+) -> Option<Breach>
+    requires { list.old.len ≡ 0 }
+    ensures listed { (items : List Breach) × Breaches (B.meaning bank.now) set 0 (rules_of rules.now) items
+        × Lists items list.old.places.now (record { placed = list.new.len; unplaced = result }) list.new.places.now }
+    ensures lender { list.new.places.ghost_name ≡ list.old.places.ghost_name }
+{
+    for (i, rule) in rules.iter().enumerate() {
+        if keeps(bank, rule, set) {
+            continue;
+        }
+        if let Err(found) = list.put(breach(i, rule)) {
+            return Some(found);
+        }
+    }
+    None
+}
+
 // Lists the rules that a set breaks in the caller's memory, lowest first.
 fn list_breaches<B: Bank>(
     bank: &B,
@@ -34,20 +57,10 @@ fn list_breaches<B: Bank>(
     ensures { (items : List Breach) × Breaches (B.meaning bank.now) set 0 (rules_of rules.now) items × Lists items places.old result places.new }
 {
     let mut list = LentList::new(places);
-    for (i, rule) in rules.iter().enumerate() {
-        if keeps(bank, rule, set) {
-            continue;
-        }
-        if let Err(found) = list.put(breach(i, rule)) {
-            return Listing {
-                placed: list.len(),
-                unplaced: Some(found),
-            };
-        }
-    }
+    let unplaced = put_breaches(&mut list, bank, rules, set);
     Listing {
         placed: list.len(),
-        unplaced: None,
+        unplaced,
     }
 }
 

@@ -1,8 +1,9 @@
 ghost use Rattle.std.specs.Prelude.{◌≡◌, ◌<◌, length, Decides, MatchResult};
 ghost use Rattle.std.specs.List.{AllByRecursion};
-ghost use Rattle.answer_sets.specs.Rules.{Keeps, Ranked};
+ghost use Rattle.answer_sets.specs.Rules.{Keeps, Ranked, Bears, Borne};
+ghost use Rattle.answer_sets.specs.Rounds.{Rounds};
 ghost use Rattle.refusals.specs.Numbers.{number, told};
-ghost use Rattle.refusals.specs.declared.refusal.Refusal.TheVariants.{BadRanks};
+ghost use Rattle.refusals.specs.declared.refusal.Refusal.TheVariants.{BadRanks, Unborne};
 ghost use Rattle.rows.specs.Rows.{held};
 ghost use Rattle.rules.specs.Shapes.{way_of};
 ghost use Rattle.account.specs.Account.{file, lodge, PagesWith, Step};
@@ -77,6 +78,15 @@ impl<B: Bank> Ledger<B> {
         self.unbroken(set)
     }
 
+    // The ranks of the rounds, if some ranks bear the set.
+    fn borne_ranks(&self, way: Way, set: Set) -> Result<Ranks, Refusal>
+        ensures { MatchResult result
+            (λ ranks. Rounds (B.meaning self.now.bank) (way_of way) (view self.now).rules set ranks.bytes)
+            (λ e. (e ≡ Unborne) × (Borne (B.meaning self.now.bank) (way_of way) (view self.now).rules set → ⊥)) }
+    {
+        self.program(way).rank_set(set).ok_or(Refusal::Unborne)
+    }
+
     // The ranks with which a set is to be filed, or why it may not be.
     fn fileable(&self, way: Way, set: Set) -> Result<Ranks, Refusal>
         ensures { MatchResult result
@@ -86,7 +96,15 @@ impl<B: Bank> Ledger<B> {
             (Refuses (B.meaning self.now.bank) (view self.now) (file (way_of way) set)) }
     {
         self.pageable(set)?;
-        self.program(way).rank_set(set).ok_or(Refusal::Unborne)
+        let ranks = self.borne_ranks(way, set)?;
+        Ok(ranks)
+    }
+
+    // Whether these ranks bear the set.
+    fn bears(&self, way: Way, set: Set, ranks: &[u8]) -> bool
+        ensures { Decides result (Bears (B.meaning self.now.bank) (way_of way) (view self.now).rules set ranks.now) }
+    {
+        self.program(way).bears(set, ranks)
     }
 
     // The ranks with which a set is to be lodged, or why it may not be.
@@ -99,7 +117,7 @@ impl<B: Bank> Ledger<B> {
     {
         let kept = fitting(ranks, set)?;
         self.pageable(set)?;
-        if !self.program(way).bears(set, ranks) {
+        if !self.bears(way, set, ranks) {
             return Err(Refusal::Unborne);
         }
         Ok(kept)

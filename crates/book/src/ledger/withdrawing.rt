@@ -1,5 +1,5 @@
 ghost use Rattle.std.specs.Prelude.{◌≡◌, ◌+◌, ◌-◌, ◌<◌, length, Decides, MatchResult};
-ghost use Rattle.std.specs.Option as Options;
+ghost use Rattle.refusals.specs.declared.refusal.Refusal.TheVariants.{NoRule};
 ghost use Rattle.rows.specs.Rows.{held};
 ghost use Rattle.account.specs.Account.{withdraw, Step};
 ghost use Rattle.book.specs.Counts.{counts, last_of};
@@ -26,10 +26,12 @@ impl<B: Bank> Ledger<B> {
     }
 
     // The number of the last rule, if there is one.
-    fn last_rule(&self) -> Option<usize>
-        ensures { Options.MatchOption result (length (held self.now.rules) ≡ 0) (λ n. n + 1 ≡ length (held self.now.rules)) }
+    fn last_rule(&self) -> Result<usize, Refusal>
+        ensures { MatchResult result
+            (λ n. n + 1 ≡ length (held self.now.rules))
+            (λ e. (e ≡ NoRule) × (length (held self.now.rules) ≡ 0)) }
     {
-        self.rules.len().checked_sub(1)
+        self.rules.len().checked_sub(1).ok_or(Refusal::NoRule)
     }
 
     // The number of the last rule, or why it may not be withdrawn.
@@ -39,7 +41,7 @@ impl<B: Bank> Ledger<B> {
             × Accepts (B.meaning self.now.bank) (view self.now) withdraw n (RulesCut (view self.now) n))
             (Refuses (B.meaning self.now.bank) (view self.now) withdraw) }
     {
-        let last = self.last_rule().ok_or(Refusal::NoRule)?;
+        let last = self.last_rule()?;
         if self.is_held() {
             return Err(Refusal::RuleHeld);
         }

@@ -1,13 +1,10 @@
-use Rattle.std.proofs.Common.{List, length, subst, arith}
+use Rattle.std.proofs.Common.{◌∙◌, length, arith}
 use Rattle.std.proofs.lemmas.List.{length-map}
 use Rattle.std.proofs.lemmas.Result.{err_from_is_err_and}
-use Rattle.answer_sets.specs.Rounds.{Rounds}
-use Rattle.answer_sets.specs.Rules.{Borne}
 use Rattle.refusals.specs.Numbers.{number, told}
 use Rattle.refusals.specs.declared.refusal.Refusal.TheVariants.{Unborne}
 use Rattle.rows.specs.Rows.{held}
-use Rattle.rules.specs.Shapes.{way_of, rules_of}
-use Rattle.rules.specs.declared.rule.Rule.{Rule}
+use Rattle.rules.specs.Shapes.{way_of}
 use Rattle.account.specs.Account.{file}
 use Rattle.book.specs.Ready.{Refuses}
 use Rattle.book.specs.View.{view, page_of}
@@ -25,25 +22,23 @@ returns-in_err-pageable g c =
     passed_on _ (Refuses m a (file w c.args.set)) c.from_residual.result p.0 e p.1 p.2
     (refuses m a (file w c.args.set) e (file_not_paged m a c.args.set w (number e) (told e) c.in_err-pageable.ensures))
 
-pub returns-in-Some : goal.returns-in-Some
-returns-in-Some g c =
+pub returns-in_err-ranks : goal.returns-in_err-ranks
+returns-in_err-ranks g c =
     let m = g.B.Bank.meaning c.args.self.now.bank in
     let a = view c.args.self.now in
     let w = way_of c.args.way in
     let free = c.in_ok-pageable.ensures.0 in
     let same = length-map (held c.args.self.now.pages) (page_of a.rules) in
-    let rounds = subst (λ (rules : List Rule). Rounds m w (rules_of rules) c.args.set c.in-Some.ranks) c.as_slice.ensures c.in-Some.ensures.rounds in (
-      free,
-      rounds.bear.ranked.places,
-      file_ready m a c.args.set w (omega arith) c.in-Some.ranks rounds,
-    )
+    let fails = c.in_err-ranks.ensures in
+    let p = err_from_is_err_and c.from_residual-in_err-ranks.result c.from_residual-in_err-ranks.ensures.1 in
+    passed_on _ (Refuses m a (file w c.args.set)) c.from_residual-in_err-ranks.result p.0 Unborne p.1 (p.2 ∙ fails.0)
+    (refuses m a (file w c.args.set) Unborne (file_unborne m a c.args.set w (omega arith) c.in_ok-pageable.ensures.1 fails.1))
 
-pub returns-in-None : goal.returns-in-None
-returns-in-None g c =
+pub returns : goal.returns
+returns g c =
     let m = g.B.Bank.meaning c.args.self.now.bank in
     let a = view c.args.self.now in
     let w = way_of c.args.way in
     let free = c.in_ok-pageable.ensures.0 in
     let same = length-map (held c.args.self.now.pages) (page_of a.rules) in
-    let fails = subst (λ (rules : List Rule). Borne m w (rules_of rules) c.args.set → ⊥) c.as_slice.ensures c.in-None.ensures.rounds in
-    refuses m a (file w c.args.set) Unborne (file_unborne m a c.args.set w (omega arith) c.in_ok-pageable.ensures.1 fails)
+    (free, file_ready m a c.args.set w (omega arith) c.in_ok-ranks.ranks.bytes c.in_ok-ranks.ensures)

@@ -25,7 +25,7 @@ returns g c =
     let ls = rules_of rs in
     let page = c.in-Some.page.now in
     let n = c.args.number in
-    let told = c.summary_of.ensures in
+    let told = c.from.ensures in
     let same = length-map ps (page_of ls) in
     let enough = c.if-is_short.ensures in
     let there : n < length ps = search rules in
@@ -39,7 +39,7 @@ returns g c =
     let few : page.rules ≤ length ls = omega arith in (
       omega arith,
       omega arith,
-      λ d. subst (λ (p : plain.Page). Tells p c.summary_of.result c.args.memory.now c.write_ranks.new.memory)
+      λ d. subst (λ (p : plain.Page). Tells p c.from.result c.args.memory.now c.write_ranks.new.memory)
           (sym (get_or-map (page_of ls) ps n page d there ∙ ap (page_of ls) (sym this)))
           record {
             way = ap way_of told.0;
