@@ -11,10 +11,12 @@ use Rattle.answer_sets.specs.Rules.{Way, reduct, complement, Head, decision, no_
 use Rattle.account.specs.Account.{Account, Page}
 use Rattle.hexlines.specs.Hex.{Bytes}
 use Rattle.hexlines.proofs.Hexes.{bytes_append}
-use Rattle.frames.specs.Bytes.{in_two, in_eight, way_byte}
+use Rattle.frames.specs.Bytes.{in_two, in_eight}
+use Rattle.rules.specs.Bytes.{way_byte}
 use Rattle.frames.specs.Frames.{Frame, a_header, a_trailer, spelled, Fit}
 use Rattle.answer_sets.specs.Naming.{head_number}
-use Rattle.archive.specs.Text.{entry_number, body_bytes, rule_frame, page_frame, resting, inner, frames_of, lines, text_of}
+use Rattle.answer_sets.specs.Naming.{entry_number}
+use Rattle.archive.specs.Text.{body_bytes, rule_frame, page_frame, resting, inner, frames_of, lines, text_of}
 use Rattle.archive.specs.Formed.{HeadFormed, RuleFormed, PageFormed, Formed}
 use Rattle.archive.specs.Laws.{Reads, LineByLine}
 use Rattle.archive.proofs.Pieces.{length_body, few_decisions}

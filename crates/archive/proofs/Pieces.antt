@@ -7,14 +7,18 @@ use Rattle.sets.specs.Walks.{decisions}
 use Rattle.sets.proofs.Listing.{decisions_listed}
 use Rattle.answer_sets.specs.Rules as meant
 use Rattle.answer_sets.specs.Rules.{rank}
+use Rattle.rows.specs.Rows.{held}
+use Rattle.rows.proofs.Rows.{held_bound}
 use Rattle.rules.specs.Shapes.{entry_of}
 use Rattle.rules.specs.declared.rule.Rule.{Rule}
 use Rattle.rules.specs.declared.entry.Entry.{Entry}
 use Rattle.account.specs.Account.{Page}
 use Rattle.answer_sets.specs.Naming.{head_number}
-use Rattle.frames.specs.Bytes.{in_two, in_eight, way_byte}
+use Rattle.frames.specs.Bytes.{in_two, in_eight}
+use Rattle.rules.specs.Bytes.{way_byte}
 use Rattle.frames.specs.Frames.{spelled}
-use Rattle.archive.specs.Text.{entry_number, body_bytes, rule_frame, page_frame}
+use Rattle.answer_sets.specs.Naming.{entry_number}
+use Rattle.archive.specs.Text.{body_bytes, rule_frame, page_frame}
 
 -- what is read past the end of a body
 abbrev pub blank : Entry
@@ -60,5 +64,5 @@ page_spelled p w start mid after e s m a =
     let ranks = map (rank p.ranks) (decisions p.«set») in
     a ∙ ap (λ l. l ++ ranks) (m ∙ ap (λ l. l ++ in_eight p.«set») (s ∙ ap (λ x. 3 ∷ x ∷ []) e))
 
-pub short_body : (rule : Rule) → length (take rule.len rule.places) ≤ 8
-short_body rule = let n = length-take rule.len rule.places in let s = rule.short in omega arith
+pub short_body : (rule : Rule) → length (held rule.body) ≤ 8
+short_body rule = held_bound rule.body

@@ -12,7 +12,8 @@ use Rattle.account.specs.Account.{Page}
 use Rattle.frames.specs.Frames.{spelled}
 use Rattle.frames.proofs.Known.{two_same, way_same, eight_same}
 use Rattle.answer_sets.specs.Naming.{head_number}
-use Rattle.archive.specs.Text.{entry_number, body_bytes, rule_frame, page_frame}
+use Rattle.answer_sets.specs.Naming.{entry_number}
+use Rattle.archive.specs.Text.{body_bytes, rule_frame, page_frame}
 use Rattle.archive.specs.Formed.{HeadFormed, RuleFormed, PageFormed}
 
 head_same : (g h : Head) → HeadFormed g → HeadFormed h → head_number g ≡ head_number h → g ≡ h

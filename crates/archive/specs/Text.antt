@@ -4,14 +4,10 @@ use Rattle.std.specs.List.{flat_map}
 use Rattle.sets.specs.Walks.{decisions}
 use Rattle.answer_sets.specs.Rules.{Entry, Rule, rank}
 use Rattle.account.specs.Account.{Account, Page}
-use Rattle.answer_sets.specs.Naming.{head_number}
+use Rattle.answer_sets.specs.Naming.{head_number, entry_number}
 use Rattle.hexlines.specs.Hex.{line}
 use Rattle.frames.specs.Bytes.{in_two}
 use Rattle.frames.specs.Frames.{Frame, a_header, a_rule, a_page, a_trailer, spelled}
-
--- an entry's number: its condition's, which is below 0x8000, and 0x8000 more where "not" stands before it
-abbrev pub entry_number : Entry → ℕ
-entry_number e = e.condition % 32768 + cond e.negated 32768 0
 
 -- the entries of a body, two bytes each
 abbrev pub body_bytes : List Entry → List ℕ

@@ -56,9 +56,9 @@ fn put_inner(memory: &mut [u8], at: usize, rules: &[Rule], pages: &[Page]) -> us
     ensures near { result < 2 ^ 32 }
 {
     let mut end = at;
-    for k in 0..rules.len() {
+    for (k, rule) in rules.iter().enumerate() {
         end = put_pages(memory, end, rules, pages, k);
-        end = put_line(memory, end, &rule_bytes(&rules[k]));
+        end = put_line(memory, end, &rule_bytes(rule));
     }
     put_pages(memory, end, rules, pages, rules.len())
 }

@@ -2,59 +2,34 @@ ghost use Rattle.std.specs.Prelude.{◌≡◌, ◌+◌, ◌*◌, ◌<◌, ◌≤
 ghost use Rattle.sets.specs.Walks.{decisions};
 ghost use Rattle.answer_sets.specs.Rules.{rank};
 ghost use Rattle.rows.specs.Rows.{held};
-ghost use Rattle.rules.specs.Shapes.{way_of, entry_of, rule_of};
+ghost use Rattle.rules.specs.Shapes.{entry_of, rule_of};
 ghost use Rattle.book.specs.View.{page_of};
-ghost use Rattle.frames.specs.Bytes.{in_two, in_eight, way_byte};
+ghost use Rattle.frames.specs.Bytes.{in_two, in_eight};
 ghost use Rattle.frames.specs.Frames.{spelled, a_header, a_trailer};
-ghost use Rattle.archive.specs.Text.{entry_number, body_bytes, rule_frame, page_frame};
+ghost use Rattle.archive.specs.Text.{body_bytes, rule_frame, page_frame};
 
 use book::page::Page;
 use hexlines::line::Line;
+use judge::ranks::Ranks;
 use naming::head::head_number;
 use rows::row::Row;
 use rules::entry::Entry;
 use rules::rule::Rule;
-use rules::way::Way;
 use sets::decisions::Decisions;
 use sets::set::Set;
-
-// What "not" adds to an entry's number.
-const NOT: u16 = 0x8000;
 
 // A number in two bytes.
 fn two_bytes(n: u16) -> [u8; 2]
     ensures { result ≡ in_two n }
 {
-    [(n / 256) as u8, (n % 256) as u8]
+    u16::to_be_bytes(n)
 }
 
 // A number in eight bytes.
 fn eight_bytes(n: u64) -> [u8; 8]
     ensures { result ≡ in_eight n }
 {
-    n.to_be_bytes()
-}
-
-// The number of a way.
-fn way_number(way: Way) -> u8
-    ensures { result ≡ way_byte (way_of way) }
-{
-    match way {
-        Way::Reduct => 1,
-        Way::Complement => 2,
-    }
-}
-
-// The number of an entry.
-fn entry_number(e: Entry) -> u16
-    ensures { result ≡ entry_number (entry_of e) }
-{
-    let condition = e.condition % NOT;
-    if e.negated {
-        condition + NOT
-    } else {
-        condition
-    }
+    u64::to_be_bytes(n)
 }
 
 // Puts one byte more into a line.
@@ -91,18 +66,17 @@ fn add_body(line: &mut Line, body: &[Entry])
     ensures { held line.new ≡ held line.old ++ body_bytes (map entry_of body.now) }
 {
     for e in body {
-        add_all(line, &two_bytes(entry_number(*e)));
+        add_all(line, &two_bytes(u16::from(*e)));
     }
 }
 
 // Puts the ranks of a set's decisions into a line, the lowest decision first.
-fn add_ranks(line: &mut Line, set: Set, ranks: &[u8])
-    requires line_len_bound { length (held line.old) ≤ 10 }
-    requires ranks_len { length ranks.now ≡ 64 }
-    ensures { held line.new ≡ held line.old ++ map (rank ranks.now) (decisions set) }
+fn add_ranks(line: &mut Line, set: Set, ranks: &Ranks)
+    requires { length (held line.old) ≤ 10 }
+    ensures { held line.new ≡ held line.old ++ map (rank ranks.now.bytes) (decisions set) }
 {
     for d in Decisions::of(set) {
-        add(line, ranks[d.place() as usize]);
+        add(line, ranks.of(d));
     }
 }
 
@@ -132,7 +106,7 @@ pub(crate) fn rule_bytes(rule: &Rule) -> Line
 pub(crate) fn page_bytes(page: &Page) -> Line
     ensures { held result ≡ spelled (page_frame (page_of [] page.now)) }
 {
-    let mut line = line_of(&[3, way_number(page.way)]);
+    let mut line = line_of(&[3, u8::from(page.way)]);
     add_all(&mut line, &eight_bytes(page.set));
     add_ranks(&mut line, page.set, &page.ranks);
     line

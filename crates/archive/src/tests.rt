@@ -1,13 +1,14 @@
 use crate::print::print_text;
 use book::limits::{MAX_PAGES, MAX_RULES};
 use book::page::Page;
+use judge::ranks::Ranks;
 use refusals::refusal::Refusal;
 use rows::row::Row;
 use rules::entry::Entry;
-use rules::head::Head;
 use rules::rule::Rule;
 use rules::way::Way;
 use sets::decision::Decision;
+use sets::decisions::Decisions;
 use std::process::Abort;
 use std::test::Fail;
 
@@ -21,35 +22,30 @@ const NOT_2: Entry = Entry {
     negated: true,
 };
 
-const BLANK: Page = Page {
-    way: Way::Reduct,
-    set: 0,
-    ranks: [0; 64],
-    rules: 0,
-};
-
-// A rule for a decision, or with no head for a number that is no decision's.
-fn rule(place: u8, body: &[Entry]) -> Option<Rule> {
-    let head = match Decision::new(place) {
-        Some(d) => Head::Takes(d),
-        None => Head::Absent,
-    };
-    Rule::new(head, body)
+// The page of the empty set, on no rules.
+fn blank() -> Page {
+    Page {
+        way: Way::Reduct,
+        set: 0,
+        ranks: Ranks::none(),
+        rules: 0,
+    }
 }
 
 // Decision 0 always, 1 if condition 3.
 fn two_rules() -> Option<Row<Rule, MAX_RULES>> {
     let mut rules = Row::new(Rule::empty());
-    let _ = rules.push(rule(0, &[])?);
-    let _ = rules.push(rule(1, &[IF_3])?);
+    let _ = rules.push(Rule::new(Decision::new(0), &[])?);
+    let _ = rules.push(Rule::new(Decision::new(1), &[IF_3])?);
     Some(rules)
 }
 
 // Decisions 0 and 1 with ranks 1 and 2, on the first so many rules.
 fn page(way: Way, rules: usize) -> Page {
-    let mut ranks = [0; 64];
-    ranks[0] = 1;
-    ranks[1] = 2;
+    let mut ranks = Ranks::none();
+    for d in Decisions::of(3) {
+        ranks.give(d, d.place() + 1);
+    }
     Page {
         way,
         set: 3,
@@ -72,10 +68,7 @@ fn check_text(
         return Ok(());
     };
     assert_eq!(rt; n, text.len());
-    for i in 0..text.len() {
-        assert!(rt; i < 400);
-        assert_eq!(rt; memory[i], text[i]);
-    }
+    assert!(rt; memory.starts_with(text));
     assert!(rt; n < 400);
     assert_eq!(rt; memory[n], 7);
     Ok(())
@@ -87,7 +80,7 @@ fn two_rules_and_a_page(rt: HostRuntime) -> Result<(), Fail> {
         assert!(rt; false);
         return Ok(());
     };
-    let mut pages = Row::new(BLANK);
+    let mut pages = Row::new(blank());
     let _ = pages.push(page(Way::Complement, 2));
     check_text(
         &rt,
@@ -101,13 +94,13 @@ fn two_rules_and_a_page(rt: HostRuntime) -> Result<(), Fail> {
 #[test]
 fn an_empty_book(rt: HostRuntime) -> Result<(), Fail> {
     let rules = Row::new(Rule::empty());
-    let pages = Row::new(BLANK);
+    let pages = Row::new(blank());
     check_text(&rt, 32767, &rules, &pages, b"017fff\n040000\n")
 }
 
 #[test]
 fn pages_among_the_rules(rt: HostRuntime) -> Result<(), Fail> {
-    let Some(last) = rule(64, &[NOT_2, IF_3]) else {
+    let Some(last) = Rule::new(Decision::new(64), &[NOT_2, IF_3]) else {
         assert!(rt; false);
         return Ok(());
     };
@@ -116,8 +109,8 @@ fn pages_among_the_rules(rt: HostRuntime) -> Result<(), Fail> {
         return Ok(());
     };
     let _ = rules.push(last);
-    let mut pages = Row::new(BLANK);
-    let _ = pages.push(BLANK);
+    let mut pages = Row::new(blank());
+    let _ = pages.push(blank());
     let _ = pages.push(page(Way::Reduct, 2));
     let _ = pages.push(page(Way::Complement, 2));
     check_text(
@@ -132,11 +125,15 @@ fn pages_among_the_rules(rt: HostRuntime) -> Result<(), Fail> {
 #[test]
 fn all_64_decisions(rt: HostRuntime) -> Result<(), Fail> {
     let rules = Row::new(Rule::empty());
-    let mut pages = Row::new(BLANK);
+    let mut ranks = Ranks::none();
+    for d in Decisions::of(u64::MAX) {
+        ranks.give(d, 171);
+    }
+    let mut pages = Row::new(blank());
     let _ = pages.push(Page {
         way: Way::Reduct,
         set: u64::MAX,
-        ranks: [171; 64],
+        ranks,
         rules: 0,
     });
     check_text(
@@ -151,13 +148,11 @@ fn all_64_decisions(rt: HostRuntime) -> Result<(), Fail> {
 #[test]
 fn memory_too_short(rt: HostRuntime) {
     let rules = Row::new(Rule::empty());
-    let pages = Row::new(BLANK);
+    let pages = Row::new(blank());
     let mut memory = [7u8; 13];
-    match print_text(5, &rules, &pages, &mut memory) {
-        Err(Refusal::ShortMemory(needed)) => assert_eq!(rt; needed, 14),
-        _ => assert!(rt; false),
-    }
-    for i in 0..13usize {
-        assert_eq!(rt; memory[i], 7);
-    }
+    assert_eq!(rt;
+        print_text(5, &rules, &pages, &mut memory),
+        Err(Refusal::ShortMemory(14))
+    );
+    assert!(rt; memory == [7; 13]);
 }

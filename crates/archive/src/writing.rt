@@ -30,8 +30,8 @@ fn put_bytes(memory: &mut [u8], at: usize, bytes: &[u8])
     requires { at + 2 * length bytes.now ≤ length memory.old }
     ensures { memory.new ≡ over at (hex bytes.now) memory.old }
 {
-    for i in 0..bytes.len() {
-        put_byte(memory, at + 2 * i, bytes[i]);
+    for (i, b) in bytes.iter().enumerate() {
+        put_byte(memory, at + 2 * i, *b);
     }
 }
 

@@ -22,7 +22,7 @@ add_all-requires c =
 pub loop-e-preserved : goal.loop-e-preserved
 loop-e-preserved c =
     body_more (held c.args.line.now) (held c.loop-e.line) (held c.add_all.new.line) c.args.body.now c.loop-e.e-index (omega arith) c.loop-e.invariant
-    (c.add_all.ensures ∙ ap (λ l. held c.loop-e.line ++ l) (c.two_bytes.ensures ∙ ap in_two c.entry_number.ensures))
+    (c.add_all.ensures ∙ ap (λ l. held c.loop-e.line ++ l) (c.two_bytes.ensures ∙ ap in_two c.from.ensures))
 
 pub returns : goal.returns
 returns c = c.loop-e.invariant ∙ ap (λ l. held c.args.line.now ++ body_bytes (map entry_of l)) (take_all c.loop-e.e-index c.args.body.now (omega arith))

@@ -1,4 +1,4 @@
-use Rattle.std.proofs.Common.{◌≡◌, ◌++◌, map, length, sym, ap, ◌∙◌, append-nil, arith, length-append}
+use Rattle.std.proofs.Common.{◌≡◌, [], ◌∷◌, ◌++◌, map, length, sym, refl, ap, ◌∙◌, append-nil, arith, length-append}
 use Rattle.std.proofs.lemmas.List.{length-map}
 use Rattle.sets.specs.declared.decisions.Decisions.{Decisions}
 use Rattle.sets.specs.Walks.{decisions}
@@ -9,7 +9,7 @@ use Rattle.archive.proofs.spelling.add_ranks.Goals as goal
 
 pub add-requires : goal.add-requires
 add-requires c =
-    let ranks = c.args.ranks.now in
+    let ranks = c.args.ranks.now.bytes in
     let all = decisions c.args.set in
     let left = decisions c.loop-d.d-iterator.rest in
     let a = length-append (held c.loop-d.line) (map (rank ranks) left) in
@@ -24,14 +24,14 @@ add-requires c =
 pub loop-d-init : goal.loop-d-init
 loop-d-init c =
     let starts : c.into_iter-d-iterator.result.rest ≡ c.args.set = ap (λ (s : Decisions). s.rest) c.into_iter-d-iterator.ensures.into_iter_gives ∙ c.of-d-items.ensures in
-    ap (λ s. held c.args.line.now ++ map (rank c.args.ranks.now) (decisions s)) starts
+    ap (λ s. held c.args.line.now ++ map (rank c.args.ranks.now.bytes) (decisions s)) starts
 
 pub loop-d-preserved : goal.loop-d-preserved
 loop-d-preserved c =
-    ranks_more (held c.loop-d.line) (held c.add.new.line) _ c.args.ranks.now (decisions c.loop-d.d-iterator.rest) (decisions c.next.new.self.rest)
-    c.in-Some.d.place c.place.result c.loop-d.invariant c.in-Some.ensures.steps c.place.ensures c.add.ensures
+    ranks_more (held c.loop-d.line) (held c.add.new.line) _ c.args.ranks.now.bytes (decisions c.loop-d.d-iterator.rest) (decisions c.next.new.self.rest)
+    c.in-Some.d.place c.in-Some.d.place c.loop-d.invariant c.in-Some.ensures.steps refl (c.add.ensures ∙ ap (λ x. held c.loop-d.line ++ x ∷ []) c.of.ensures)
 
 pub returns : goal.returns
 returns c =
-    let ranks = c.args.ranks.now in
+    let ranks = c.args.ranks.now.bytes in
     sym (ap (λ l. held c.loop-d.line ++ map (rank ranks) l) c.in-None.ensures.steps ∙ append-nil (held c.loop-d.line)) ∙ c.loop-d.invariant

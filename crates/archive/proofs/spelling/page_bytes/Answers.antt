@@ -6,5 +6,5 @@ use Rattle.archive.proofs.spelling.page_bytes.Goals as goal
 
 pub returns : goal.returns
 returns c =
-    page_spelled (page_of [] c.args.page.now) c.way_number.result (held c.line_of-line.result) (held c.add_all.new.line) (held c.add_ranks.new.line)
-    c.way_number.ensures c.line_of-line.ensures (c.add_all.ensures ∙ ap (λ l. held c.line_of-line.result ++ l) c.eight_bytes.ensures) c.add_ranks.ensures
+    page_spelled (page_of [] c.args.page.now) c.from.result (held c.line_of-line.result) (held c.add_all.new.line) (held c.add_ranks.new.line)
+    c.from.ensures c.line_of-line.ensures (c.add_all.ensures ∙ ap (λ l. held c.line_of-line.result ++ l) c.eight_bytes.ensures) c.add_ranks.ensures

@@ -21,8 +21,8 @@ add_body-requires c =
 pub returns : goal.returns
 returns c =
     let rule = c.args.rule.now in
-    let body = map entry_of (take rule.len rule.places) in
-    let n = ap length c.body-body.ensures ∙ sym (length-map (take rule.len rule.places) entry_of) in
+    let body = map entry_of (held rule.body) in
+    let n = ap length c.body-body.ensures ∙ sym (length-map (held rule.body) entry_of) in
     rule_spelled (head_of rule.head) body c.head_number.result (length c.body-body.result.now) (held c.line_of-line.result) (held c.add_body.new.line)
     (c.head_number.ensures ∙ ap (λ h. head_number (head_of h)) c.head.ensures)
     n c.line_of-line.ensures (c.add_body.ensures ∙ ap (λ l. held c.line_of-line.result ++ body_bytes (map entry_of l)) c.body-body.ensures)
