@@ -1,4 +1,4 @@
-ghost use Rattle.std.specs.Prelude.{◌≡◌, [], ◌∷◌, ◌++◌, length, MatchResult, ◌≢◌, nat_lt, if◌then◌else◌};
+ghost use Rattle.std.specs.Prelude.{◌≡◌, [], ◌∷◌, ◌++◌, MatchResult, ◌≢◌};
 ghost use Rattle.refusals.specs.Numbers.{number, Says};
 ghost use Rattle.rules.specs.Shapes.{way_of, rule_of, rules_of};
 ghost use Rattle.rows.specs.Rows.{held};
@@ -13,7 +13,7 @@ use rows::row::Row;
 use rules::rule::{MAX_BODY, Rule};
 use rules::way::Way;
 
-// The way of a number.
+// The way of a number: the interface for C counts the ways from 0.
 pub(crate) fn way_named(way: u8) -> Result<Way, Refusal>
     ensures { MatchResult result (λ w. way_of w ≡ way_numbered way) (λ e. Says e 14 []) }
 {
@@ -24,15 +24,13 @@ pub(crate) fn way_named(way: u8) -> Result<Way, Refusal>
     }
 }
 
-// The line of a table of conditions.
-fn line_of(c: &ConditionNumbers) -> ListedCondition
-    ensures { result ≡ line c.now }
+// Puts one line more at the end, unless the table is full.
+fn keep_line(lines: &mut Row<ListedCondition, 256>, c: &ConditionNumbers) -> Result<(), Refusal>
+    ensures { MatchResult result (λ _. held lines.new ≡ held lines.old ++ line c.now ∷ []) (λ e. Says e 17 []) }
 {
-    ListedCondition {
-        domain: c.domain,
-        first: c.first,
-        len: c.len,
-    }
+    lines
+        .push(ListedCondition::from(c))
+        .map_err(|_| Refusal::BadTables)
 }
 
 // The table of conditions, unless there are more than a table may have.
@@ -47,9 +45,7 @@ pub(crate) fn table_of(
         len: 0,
     });
     for c in conditions {
-        if !lines.push(line_of(c)) {
-            return Err(Refusal::BadTables);
-        }
+        keep_line(&mut lines, c)?;
     }
     Ok(lines)
 }
@@ -72,12 +68,11 @@ fn rule_of<B: Bank>(bank: &B, numbers: &RuleNumbers) -> Result<Rule, Refusal>
     rule_named(bank, numbers.head, &numbers.body[0..len])
 }
 
-// Puts one rule more at the end, unless the list is full; whether it did.
-fn keep(rules: &mut Row<Rule, 128>, rule: Rule) -> bool
-    ensures room { result ≡ nat_lt (length (held rules.old)) 128 }
-    ensures items { held rules.new ≡ (if result then held rules.old ++ rule ∷ [] else held rules.old) }
+// Puts one rule more at the end, unless the list is full.
+fn keep(rules: &mut Row<Rule, 128>, rule: Rule) -> Result<(), Refusal>
+    ensures { MatchResult result (λ _. held rules.new ≡ held rules.old ++ rule ∷ []) (λ e. Says e 21 []) }
 {
-    rules.push(rule)
+    rules.push(rule).map_err(|_| Refusal::RulesFull)
 }
 
 // The rules of these numbers, unless there are more than a book may have.
@@ -90,9 +85,7 @@ pub(crate) fn rules_of<B: Bank>(
     let mut rules = Row::new(Rule::empty());
     for n in numbers {
         let rule = rule_of(bank, n)?;
-        if !keep(&mut rules, rule) {
-            return Err(Refusal::RulesFull);
-        }
+        keep(&mut rules, rule)?;
     }
     Ok(rules)
 }

@@ -1,3 +1,5 @@
+use listed::condition::ListedCondition;
+
 // A condition by its numbers: its domain, and where its sets stand in the row of all sets.
 #[repr(C)]
 #[derive(Clone, Copy)]
@@ -5,6 +7,21 @@ pub struct ConditionNumbers {
     pub domain: u64,
     pub first: usize,
     pub len: usize,
+}
+
+impl From<&ConditionNumbers> for ListedCondition {
+    ghost use Rattle.std.specs.Prelude.{◌≡◌};
+    ghost use Rattle.exported.specs.Numbered.{line};
+
+    ghost from_gives = { λ numbers c. c ≡ line numbers.now };
+
+    fn from(c: &ConditionNumbers) -> ListedCondition {
+        ListedCondition {
+            domain: c.domain,
+            first: c.first,
+            len: c.len,
+        }
+    }
 }
 
 // A rule by its numbers: its head, and the first `len` of its body's places.

@@ -7,6 +7,7 @@ ghost use Rattle.exported.specs.Numbered.{bank, way_numbered, rules_numbered};
 
 use crate::building::{rules_of, table_of, way_named};
 use crate::numbers::{ConditionNumbers, FoundNumbers, RuleNumbers};
+use judge::program::Program;
 use listed::bank::ListedBank;
 use listed::condition::ListedCondition;
 use refusals::refusal::Refusal;
@@ -29,7 +30,12 @@ fn search_over<'a>(
     let mut loaded = ListedBank::new();
     loaded.load(lines, sets)?;
     let list = rules_of(&loaded, rules)?;
-    next_set(&loaded, way, list.as_slice(), start)
+    let program = Program {
+        bank: &loaded,
+        way,
+        rules: list.as_slice(),
+    };
+    next_set(&program, start)
 }
 
 // The same with the conditions and the way by their numbers too.
@@ -47,14 +53,6 @@ fn search_numbered(
     let way = way_named(way)?;
     let table = table_of(conditions)?;
     search_over(table.as_slice(), sets, rules, way, start)
-}
-
-// The value told with a refusal, or 0.
-fn told_or_zero(refusal: Refusal) -> usize {
-    match refusal.told() {
-        Some(n) => n,
-        None => 0,
-    }
 }
 
 // The same for a caller in C or Rust. It answers 0 where there is such a set, and writes it with the number of sets tried. Else it answers
@@ -77,7 +75,7 @@ pub extern "C" fn season_next_set(
             0
         }
         Err(refusal) => {
-            let tried = told_or_zero(refusal);
+            let tried = refusal.told().unwrap_or(0);
             *found = FoundNumbers { set: 0, tried };
             refusal.number()
         }
