@@ -31,10 +31,5 @@ pub(crate) fn holds_all(row: &[Set], span: Span) -> bool
 pub(crate) fn holds_none(row: &[Set], span: Span) -> bool
     ensures { Decides result (NoneIn row.now span.lower span.upper) }
 {
-    for set in row {
-        if span.contains(*set) {
-            return false;
-        }
-    }
-    true
+    !row.iter().any(|set| span.contains(*set))
 }
