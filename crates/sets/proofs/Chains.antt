@@ -9,7 +9,6 @@ use Rattle.std.specs.Iterator.{YieldsFirstBy, YieldsThen}
 use Rattle.std.specs.List.{FoldsTo, AllWithin, HoldsAt}
 use denote.Param.Members.{Mut}
 use Rattle.sets.specs.Sets.{◌∈◌}
-use Rattle.sets.specs.Lists.{member}
 use Rattle.sets.specs.Walks.{decisions}
 use Rattle.sets.specs.declared.decision.Decision.{Decision}
 use Rattle.sets.specs.declared.decisions.Decisions.{Decisions}
@@ -51,5 +50,7 @@ module _ {F : Type 0} {g : Mut F (Decision × Unit {0}) Bool} (set : ℕ) (s u :
       decided : (b : Bool) → MatchBool b ((k : ℕ) × (k < length (decisions set)) × HoldsAt P (decisions set) k) (AllWithin (λ d. P d → ⊥) (decisions set) 0 (length (decisions set)))
           → Decides b ((d : ℕ) × (d ∈ set) × P d)
       decided true h = ((λ _. (_, (decisions_listed.exactly set _ fits).0 (member_at (decisions set) h.0 h.1), h.2 0)), (λ _. refl))
-      decided false h = ((λ e. absurd (both_ways false refl e)),
-          (λ w. absurd (let p = member_place w.0 (decisions set) ((decisions_listed.exactly set w.0 fits).1 w.1) in h p.0 0 zero-le p.1 (subst P (sym p.2) w.2))))
+      decided false h = (
+        (λ e. absurd (both_ways false refl e)),
+        (λ w. absurd (let p = member_place w.0 (decisions set) ((decisions_listed.exactly set w.0 fits).1 w.1) in h p.0 0 zero-le p.1 (subst P (sym p.2) w.2))),
+      )
