@@ -72,7 +72,10 @@ impl ListedBank<'_> {
     fn at(&self, k: u16) -> ListedCondition
         ensures { result ≡ condition self.now.conditions.now k }
     {
-        self.conditions.get(k as usize).copied().unwrap_or(NO_CONDITION)
+        self.conditions
+            .get(k as usize)
+            .copied()
+            .unwrap_or(NO_CONDITION)
     }
 
     // The sets of condition k.
