@@ -7,7 +7,7 @@ ghost use Rattle.listed.specs.Lawful.{listed_lawful};
 
 use crate::condition::ListedCondition;
 use crate::row::{holds_all, holds_none};
-use crate::tables::valid;
+use crate::tables::{row_of, valid};
 use banks::bank::Bank;
 use refusals::refusal::Refusal;
 use sets::set::Set;
@@ -56,15 +56,12 @@ impl<'a> ListedBank<'a> {
             × Says e 17 []
             × (listed self.new.conditions.now self.new.sets.now ≡ no_conditions)) }
     {
-        if valid(conditions, sets) {
-            self.conditions = conditions;
-            self.sets = sets;
-            Ok(())
-        } else {
-            self.conditions = &[];
-            self.sets = &[];
-            Err(Refusal::BadTables)
+        if !valid(conditions, sets) {
+            *self = ListedBank::new();
+            return Err(Refusal::BadTables);
         }
+        *self = ListedBank { conditions, sets };
+        Ok(())
     }
 }
 
@@ -82,10 +79,7 @@ impl ListedBank<'_> {
     fn row_of(&self, k: u16) -> &[Set]
         ensures { result.now ≡ row (condition self.now.conditions.now k) self.now.sets.now }
     {
-        let c = self.at(k);
-        let from = c.first;
-        let to = from + c.len;
-        &self.sets[from..to]
+        row_of(&self.at(k), self.sets)
     }
 }
 

@@ -1,7 +1,7 @@
-ghost use Rattle.std.specs.Prelude.{◌+◌, ◌≤◌, Decides};
+ghost use Rattle.std.specs.Prelude.{◌≡◌, ◌+◌, ◌≤◌, Decides, length};
 ghost use Rattle.sets.specs.Sets.{size};
 ghost use Rattle.sets.specs.Lists.{Ascends};
-ghost use Rattle.listed.specs.Tables.{Inside, Sound, AllSound, Valid};
+ghost use Rattle.listed.specs.Tables.{row, Inside, Sound, AllSound, Valid};
 
 use crate::condition::ListedCondition;
 use banks::tables::{MAX_CONDITIONS, narrow, placed};
@@ -26,15 +26,23 @@ fn inside(row: &[Set], domain: Set) -> bool
     row.iter().all(|set| is_subset(*set, domain))
 }
 
+// The sets of a condition, out of the row of all sets.
+pub(crate) fn row_of<'x>(c: &ListedCondition, sets: &'x [Set]) -> &'x [Set]
+    requires { c.now.first + c.now.len ≤ length sets.now }
+    ensures { result.now ≡ row c.now sets.now }
+{
+    let from = c.first;
+    let to = from + c.len;
+    &sets[from..to]
+}
+
 fn sound(c: &ListedCondition, sets: &[Set]) -> bool
     ensures { Decides result (Sound c.now sets.now) }
 {
     if !fits(c, sets.len()) {
         return false;
     }
-    let from = c.first;
-    let to = from + c.len;
-    let row = &sets[from..to];
+    let row = row_of(c, sets);
     ascends(row) && inside(row, c.domain)
 }
 
