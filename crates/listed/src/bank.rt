@@ -1,12 +1,13 @@
 ghost use Rattle.std.specs.Prelude.{◌≡◌, [], MatchResult};
 ghost use Rattle.banks.specs.Meaning.{no_conditions};
+ghost use Rattle.banks.specs.Tables.{Few};
 ghost use Rattle.refusals.specs.Numbers.{Says};
-ghost use Rattle.listed.specs.Tables.{Valid, Few, Narrow, Placed, Ordered, Contained, row, condition, listed};
+ghost use Rattle.listed.specs.Tables.{Valid, Narrow, Placed, Ordered, Contained, row, condition, listed};
 ghost use Rattle.listed.specs.Lawful.{listed_lawful};
 
 use crate::condition::ListedCondition;
 use crate::row::{holds_all, holds_none};
-use crate::tables::valid;
+use crate::tables::{row_of, valid};
 use banks::bank::Bank;
 use refusals::refusal::Refusal;
 use sets::set::Set;
@@ -48,49 +49,33 @@ impl<'a> ListedBank<'a> {
             × Says e 17 []
             × (listed self.new.conditions.now self.new.sets.now ≡ no_conditions)) }
     {
-        if valid(conditions, sets) {
-            self.conditions = conditions;
-            self.sets = sets;
-            Ok(())
-        } else {
-            self.conditions = &[];
-            self.sets = &[];
-            Err(Refusal::BadTables)
+        if !valid(conditions, sets) {
+            *self = ListedBank::new();
+            return Err(Refusal::BadTables);
         }
+        *self = ListedBank { conditions, sets };
+        Ok(())
     }
 }
 
 impl ListedBank<'_> {
+    // Condition k; the empty family of the empty domain where the table has no such number.
     fn at(&self, k: u16) -> ListedCondition
         ensures { result ≡ condition self.now.conditions.now k }
     {
-        let k = k as usize;
-        if k < self.conditions.len() {
-            self.conditions[k]
-        } else {
-            ListedCondition {
-                domain: 0,
-                first: 0,
-                len: 0,
-            }
-        }
+        self.conditions.get(k as usize).copied().unwrap_or_default()
     }
 
     // The sets of condition k.
     fn row_of(&self, k: u16) -> &[Set]
         ensures { result.now ≡ row (condition self.now.conditions.now k) self.now.sets.now }
     {
-        let c = self.at(k);
-        let from = c.first;
-        let to = from + c.len;
-        &self.sets[from..to]
+        row_of(&self.at(k), self.sets)
     }
 }
 
 impl Bank for ListedBank<'_> {
     ghost meaning = { λ b. listed b.conditions.now b.sets.now };
-
-    ghost lawful = { λ b. listed_lawful b.conditions.now b.sets.now b.few b.narrow b.contained };
 
     fn count(&self) -> u16 {
         self.conditions.len() as u16
@@ -107,4 +92,6 @@ impl Bank for ListedBank<'_> {
     fn never(&self, k: u16, span: Span) -> bool {
         holds_none(self.row_of(k), span.cut(self.domain(k)))
     }
+
+    ghost lawful = { λ b. listed_lawful b.conditions.now b.sets.now b.few b.narrow b.contained };
 }

@@ -4,6 +4,7 @@ ghost use Rattle.sets.specs.Sets.{has, ◌⊆◌, ◌∩◌, ◌∪◌, ◌∖�
 use crate::decision::Decision;
 
 // A set of decisions, as a number: the bit of value 2 to the d is on for each decision d that it has.
+// A plain number and no type of its own, since the caller's tables and lists hold sets so.
 pub type Set = u64;
 
 // Bit d of the set, as a number.
@@ -37,6 +38,7 @@ pub fn intersection(set: Set, other: Set) -> Set
 }
 
 // Whether each decision of `inner` is in `outer`: it is then its own part there.
+#[tactic(auto, using(crate::proofs::Members::decides_sub))]
 pub fn is_subset(inner: Set, outer: Set) -> bool
     ensures { Decides result (inner ⊆ outer) }
 {
