@@ -1,4 +1,2 @@
-pub mod Reach
-pub mod Carrying
-pub mod Deciding
 pub mod Picking
+pub mod Carrying

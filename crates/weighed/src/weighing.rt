@@ -1,0 +1,80 @@
+ghost use Rattle.std.specs.Prelude.{◌≡◌, ◌+◌, ◌-◌, ◌≤◌, true, not, ◌&&◌, ◌||◌, ◌⊎◌, [], ◌∷◌, length, Decides, MatchOption};
+ghost use Rattle.std.proofs.Props.{props};
+ghost use Rattle.measures.specs.Scales.{Allowed, Total};
+ghost use Rattle.sets.specs.Sets.{◌∩◌, size};
+ghost use Rattle.sets.specs.Walks.{decisions};
+ghost use Rattle.weighed.specs.Extremes.{toward, settled, extreme};
+ghost use Rattle.weighed.specs.Tables.{Sound, row};
+ghost use Rattle.weighed.specs.Totals.{Hits, Misses};
+
+use crate::condition::WeighedCondition;
+use crate::end::End;
+use measures::measure::Measure;
+use sets::decision::Decision;
+use sets::decisions::{Decisions, lowest};
+use sets::set::{Set, contains, without};
+use sets::span::Span;
+
+// What is asked of a condition: whether the sets of a span bring their totals between two bounds. `total` has the weights of the decisions
+// that are behind; those of `domain` are to come, with a weight each in `row`.
+#[derive(Drop)]
+pub(crate) struct Weighing<'a, M: Measure> {
+    span: Span,
+    domain: Set,
+    row: &'a [M::Raw],
+    low: M::Raw,
+    high: M::Raw,
+    total: M,
+    ghost few: { length row.now ≤ 12 },
+    ghost allowed: { Allowed M.scale row.now } by { Prim.hlevel props },
+    ghost fair_low: { M.scale.fair low ≡ true },
+    ghost fair_high: { M.scale.fair high ≡ true },
+    ghost started: { ∥ Total M.scale (12 - length row.now) total ∥₁ },
+}
+
+impl<'a, M: Measure> Weighing<'a, M> {
+    // A condition of valid tables over a span, from nothing on.
+    pub(crate) fn new(c: &WeighedCondition<M::Raw>, weights: &'a [M::Raw], span: Span) -> Weighing<'a, M>
+        requires { Sound M.scale weights.now c.now }
+        ensures lower { result.span.lower ≡ span.lower ∩ c.now.domain }
+        ensures upper { result.span.upper ≡ span.upper ∩ c.now.domain }
+        ensures domain { result.domain ≡ c.now.domain }
+        ensures row { result.row.now ≡ row c.now weights.now }
+        ensures low { result.low ≡ c.now.low }
+        ensures high { result.high ≡ c.now.high }
+        ensures total { result.total ≡ M.scale.nothing }
+    {
+        Weighing {
+            span: span.cut(c.domain),
+            domain: c.domain,
+            row: c.row_in(weights),
+            low: c.low,
+            high: c.high,
+            total: M::none(),
+        }
+    }
+
+    // A total after one decision, with that decision's weight.
+    fn settle(&self, end: End, d: Decision, t: M, w: M::Raw) -> M
+        ensures { result ≡ settled M.scale (toward end M.scale) self.now.span.lower self.now.span.upper d.place t w }
+    {
+        if contains(self.span.lower(), d) {
+            return t.with(w);
+        }
+        if contains(self.span.upper(), d) {
+            return end.nearer(t, t.with(w));
+        }
+        t
+    }
+
+    // The least or greatest total over the sets of the span.
+    fn furthest(&self, end: End) -> M
+        ensures { let g = self.now in result ≡ extreme M.scale (toward end M.scale) g.span.lower g.span.upper (decisions g.domain) g.row.now g.total }
+    {
+        let mut t = self.total;
+        for (d, w) in Decisions::of(self.domain).zip(self.row) {
+            t = self.settle(end, d, t, *w);
+        }
+        t
+    }
+}
