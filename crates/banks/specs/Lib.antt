@@ -1,3 +1,4 @@
 pub mod Meaning
 pub mod Standings
 pub mod Beside
+pub mod Tables

@@ -1,7 +1,8 @@
 ghost use Rattle.std.specs.Prelude.{◌≡◌, [], MatchResult};
 ghost use Rattle.banks.specs.Meaning.{no_conditions};
+ghost use Rattle.banks.specs.Tables.{Few};
 ghost use Rattle.refusals.specs.Numbers.{Says};
-ghost use Rattle.listed.specs.Tables.{Valid, Few, Narrow, Placed, Ordered, Contained, row, condition, listed};
+ghost use Rattle.listed.specs.Tables.{Valid, Narrow, Placed, Ordered, Contained, row, condition, listed};
 ghost use Rattle.listed.specs.Lawful.{listed_lawful};
 
 use crate::condition::ListedCondition;
