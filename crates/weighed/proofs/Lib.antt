@@ -1,2 +1,4 @@
-pub mod Picking
+pub mod Reach
 pub mod Carrying
+pub mod Deciding
+pub mod Picking

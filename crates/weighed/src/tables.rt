@@ -1,30 +1,12 @@
-ghost use Rattle.std.specs.Prelude.{◌≡◌, ◌+◌, ◌≤◌, true, Decides};
+ghost use Rattle.std.specs.Prelude.{◌≡◌, true, Decides};
 ghost use Rattle.std.specs.List.{AllByRecursion};
 ghost use Rattle.measures.specs.Scales.{Allowed};
-ghost use Rattle.sets.specs.Sets.{size};
 ghost use Rattle.weighed.specs.Tables.{Sound, Valid};
 
 use crate::condition::WeighedCondition;
+use banks::tables::{MAX_CONDITIONS, narrow, placed};
 use measures::measure::Measure;
-use sets::set::{Set, count};
-
-// The most conditions that one table may have, and the most decisions in a domain.
-const MAX_CONDITIONS: usize = 256;
-
-const MAX_DOMAIN: u32 = 12;
-
-fn narrow(domain: Set) -> bool
-    ensures { Decides result (size domain ≤ 12) }
-{
-    count(domain) <= MAX_DOMAIN
-}
-
-// Whether `len` places from `first` on lie inside a row of `total`; the sum of the two may not fit a number.
-fn placed(first: usize, len: usize, total: usize) -> bool
-    ensures { Decides result (first + len ≤ total) }
-{
-    first <= total && len <= total - first
-}
+use sets::set::count;
 
 // Whether each figure of a row may be a weight.
 fn all_weights<M: Measure>(row: &[M::Raw]) -> bool

@@ -77,4 +77,74 @@ impl<'a, M: Measure> Weighing<'a, M> {
         }
         t
     }
+
+    // Whether the least total is not below the lower bound, and the greatest not above the upper one.
+    fn is_enclosed(&self) -> bool
+        ensures { let g = self.now in result ≡ (M.scale.le (M.scale.bound g.low) (extreme M.scale (toward End.Least M.scale) g.span.lower g.span.upper (decisions g.domain) g.row.now g.total)
+            && M.scale.le (extreme M.scale (toward End.Greatest M.scale) g.span.lower g.span.upper (decisions g.domain) g.row.now g.total) (M.scale.bound g.high)) }
+    {
+        M::bound_of(self.low).not_above(self.furthest(End::Least))
+            && self.furthest(End::Greatest).not_above(M::bound_of(self.high))
+    }
+
+    // Whether every set of the span brings the total between the bounds: the least and the greatest total tell.
+    pub(crate) fn hits(&self) -> bool
+        ensures { let g = self.now in Decides result (Hits M.scale g.span.lower g.span.upper (M.scale.bound g.low) (M.scale.bound g.high) (decisions g.domain) g.row.now g.total) }
+    {
+        self.is_enclosed()
+    }
+
+    // Whether the least total is above the upper bound, or the greatest below the lower one.
+    fn is_apart(&self) -> bool
+        ensures { let g = self.now in result ≡ (not (M.scale.le (extreme M.scale (toward End.Least M.scale) g.span.lower g.span.upper (decisions g.domain) g.row.now g.total) (M.scale.bound g.high))
+            || not (M.scale.le (M.scale.bound g.low) (extreme M.scale (toward End.Greatest M.scale) g.span.lower g.span.upper (decisions g.domain) g.row.now g.total))) }
+    {
+        !self.furthest(End::Least).not_above(M::bound_of(self.high))
+            || !M::bound_of(self.low).not_above(self.furthest(End::Greatest))
+    }
+
+    // The first decision, and the weighing of the others with its weight left off and with it laid on; none where nothing is to come.
+    fn split(&self) -> Option<(Decision, Weighing<'a, M>, Weighing<'a, M>)>
+        ensures { let g = self.now in MatchOption result
+            ((decisions g.domain ≡ []) ⊎ (length g.row.now ≡ 0))
+            (λ p. (decisions g.domain ≡ p.0.place ∷ decisions p.1.domain)
+            × ((w : M.Raw) × (g.row.now ≡ w ∷ p.1.row.now) × (p.2.total ≡ M.scale.lay g.total w))
+            × (p.1.total ≡ g.total) × (p.2.domain ≡ p.1.domain) × (p.2.row.now ≡ p.1.row.now)
+            × (p.1.span ≡ g.span) × (p.1.low ≡ g.low) × (p.1.high ≡ g.high)
+            × (p.2.span ≡ g.span) × (p.2.low ≡ g.low) × (p.2.high ≡ g.high)) }
+    {
+        let d = lowest(self.domain)?;
+        let (w, row) = self.row.split_first()?;
+        let left = Weighing {
+            span: self.span,
+            domain: without(self.domain, d),
+            row,
+            low: self.low,
+            high: self.high,
+            total: self.total,
+        };
+        let laid = Weighing {
+            span: left.span,
+            domain: left.domain,
+            row,
+            low: left.low,
+            high: left.high,
+            total: self.total.with(*w),
+        };
+        Some((d, left, laid))
+    }
+
+    // Whether no set of the span brings the total between the bounds. A branch whose least and greatest totals can't meet them is cut off.
+    pub(crate) fn misses(&self) -> bool
+        ensures { let g = self.now in Decides result (Misses M.scale g.span.lower g.span.upper (M.scale.bound g.low) (M.scale.bound g.high) (decisions g.domain) g.row.now g.total) }
+    {
+        if self.is_apart() {
+            return true;
+        }
+        let Some((d, left, laid)) = self.split() else {
+            return false;
+        };
+        (contains(self.span.lower(), d) || left.misses())
+            && (!contains(self.span.upper(), d) || laid.misses())
+    }
 }
