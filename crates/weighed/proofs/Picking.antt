@@ -1,5 +1,5 @@
 -- Tables of weighed conditions, element by element.
-use Rattle.std.proofs.Common.{◌≡◌, ℕ, zero, suc, ◌<◌, Bool, true, List, [], ◌∷◌, length, Decides, Option, None, Some, MatchOption, MatchBool, ◌&&◌, subst, sym, ap, ◌∙◌}
+use Rattle.std.proofs.Common.{◌≡◌, ℕ, zero, suc, ◌<◌, Bool, List, [], ◌∷◌, length, Decides, Option, None, Some, MatchOption, MatchBool, ◌&&◌, subst, sym, ap, ◌∙◌}
 use Rattle.std.specs.List.{slice_get, AllByRecursion, AllWithin, HoldsAt}
 use Rattle.std.proofs.lemmas.Iterator.Search.{true_from_All}
 use Rattle.std.proofs.lemmas.List.Elements.{All-from_recursion, recursion_from_All, All-from_all_within}

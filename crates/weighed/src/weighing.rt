@@ -34,7 +34,11 @@ pub(crate) struct Weighing<'a, M: Measure> {
 
 impl<'a, M: Measure> Weighing<'a, M> {
     // A condition of valid tables over a span, from nothing on.
-    pub(crate) fn new(c: &WeighedCondition<M::Raw>, weights: &'a [M::Raw], span: Span) -> Weighing<'a, M>
+    pub(crate) fn new(
+        c: &WeighedCondition<M::Raw>,
+        weights: &'a [M::Raw],
+        span: Span,
+    ) -> Weighing<'a, M>
         requires { Sound M.scale weights.now c.now }
         ensures lower { result.span.lower ≡ span.lower ∩ c.now.domain }
         ensures upper { result.span.upper ≡ span.upper ∩ c.now.domain }
@@ -84,7 +88,9 @@ impl<'a, M: Measure> Weighing<'a, M> {
             && M.scale.le (extreme M.scale (toward End.Greatest M.scale) g.span.lower g.span.upper (decisions g.domain) g.row.now g.total) (M.scale.bound g.high)) }
     {
         M::bound_of(self.low).not_above(self.furthest(End::Least))
-            && self.furthest(End::Greatest).not_above(M::bound_of(self.high))
+            && self
+                .furthest(End::Greatest)
+                .not_above(M::bound_of(self.high))
     }
 
     // Whether every set of the span brings the total between the bounds: the least and the greatest total tell.

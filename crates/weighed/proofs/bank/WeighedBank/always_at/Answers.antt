@@ -1,4 +1,4 @@
-use Rattle.std.proofs.Common.{true, false}
+use Rattle.std.proofs.Common.{true, false, rules}
 use Rattle.std.proofs.lemmas.Bool.Decides.{Decides-at}
 use Rattle.banks.proofs.PastCount.{past_always}
 use Rattle.weighed.specs.Lawful.{valid_lawful}
@@ -12,4 +12,4 @@ returns g c =
     let m = weighed s b.conditions.now b.weights.now in
     on_both c.weighing.result _ _ _ _ c.weighing.ensures c.is_some_and.ensures
     (λ past no. Decides-at _ false no (past_always m (valid_lawful s b.conditions.now b.weights.now b.valid) k span.lower span.upper past))
-    (λ q p h. same_question _ _ _ _ (m.family k) _ true c.is_some_and.result p.0 p.1 p.2 h)
+    (λ q p h. same_question _ _ _ _ (m.family k) _ true c.is_some_and.result p.0 p.1 p.2 (search rules))

@@ -1,12 +1,11 @@
-use Rattle.std.proofs.Common.{◌≡◌, ℕ, Bool, true, false, ◌⊎◌, ◌-◌, length, Decides, sym, refl, ap, ◌∙◌, subst, inl, inr, arith}
+use Rattle.std.proofs.Common.{Bool, sym, refl, ap, ◌∙◌, subst, arith}
 use Rattle.std.proofs.Math.Logic.{∥∥₁_elim}
 use Rattle.std.proofs.Props.{props}
 use Rattle.std.proofs.lemmas.Bool.{both_ways}
-use Rattle.sets.specs.Sets.{has, ◌∈◌, ◌∉◌}
+use Rattle.sets.specs.Sets.{has}
 use Rattle.sets.specs.Walks.{decisions}
 use Rattle.sets.proofs.Ascending.{Sorted}
 use Rattle.sets.proofs.Listing.{sorted_decisions}
-use Rattle.weighed.specs.Totals.{Misses}
 use Rattle.weighed.proofs.Deciding.{misses_apart, misses_over, decided_left, decided_both, bound_compared, moved, first_holds, first_fails}
 use Rattle.weighed.proofs.weighing.Weighing.+misses.Goals as goal
 use Rattle.weighed.proofs.weighing.Weighing.+misses.Goals.{then-contains, else-contains}
@@ -36,11 +35,11 @@ returns-else-misses g t c =
     (decided_left s q.span.lower q.span.upper q.span.nested (s.bound q.low) (s.bound q.high) d.place (decisions left.domain) e.1.0 left.row.now q.total
     (subst Sorted e.0 (sorted_decisions 64 q.domain)) v c.if-misses.false
     (elim c.if-contains.branch [
-        then-contains w ↦ first_holds v (w.value-is ∙ w.if-contains.true) (ap (λ x. has x d.place) (sym c.lower.ensures) ∙ sym c.contains.ensures ∙ w.if-contains.true)
-        | else-contains w ↦ first_fails v w.misses.result w.value-is
-            (λ i. both_ways (has q.span.lower d.place) (ap (λ x. has x d.place) (sym c.lower.ensures) ∙ sym c.contains.ensures ∙ w.if-contains.false) i)
-            (moved s w.misses.result e.5 e.6 e.7 refl refl e.2 w.misses.ensures)
-      ]))
+      | then-contains w ↦ first_holds v (w.value-is ∙ w.if-contains.true) (ap (λ x. has x d.place) (sym c.lower.ensures) ∙ sym c.contains.ensures ∙ w.if-contains.true)
+      | else-contains w ↦ first_fails v w.misses.result w.value-is
+          (λ i. both_ways (has q.span.lower d.place) (ap (λ x. has x d.place) (sym c.lower.ensures) ∙ sym c.contains.ensures ∙ w.if-contains.false) i)
+          (moved s w.misses.result e.5 e.6 e.7 refl refl e.2 w.misses.ensures)
+    ]))
 
 pub returns-else-not-contains : goal.returns-else-not-contains
 returns-else-not-contains g t c =
@@ -51,11 +50,11 @@ returns-else-not-contains g t c =
     (decided_both s q.span.lower q.span.upper q.span.nested (s.bound q.low) (s.bound q.high) d.place (decisions left.domain) e.1.0 left.row.now q.total
     (subst Sorted e.0 (sorted_decisions 64 q.domain)) v r c.if-misses.true
     (elim c.if-contains.branch [
-        then-contains w ↦ first_holds v (w.value-is ∙ w.if-contains.true) (ap (λ x. has x d.place) (sym c.lower.ensures) ∙ sym c.contains.ensures ∙ w.if-contains.true)
-        | else-contains w ↦ first_fails v w.misses.result w.value-is
-            (λ i. both_ways (has q.span.lower d.place) (ap (λ x. has x d.place) (sym c.lower.ensures) ∙ sym c.contains.ensures ∙ w.if-contains.false) i)
-            (moved s w.misses.result e.5 e.6 e.7 refl refl e.2 w.misses.ensures)
-      ])
+      | then-contains w ↦ first_holds v (w.value-is ∙ w.if-contains.true) (ap (λ x. has x d.place) (sym c.lower.ensures) ∙ sym c.contains.ensures ∙ w.if-contains.true)
+      | else-contains w ↦ first_fails v w.misses.result w.value-is
+          (λ i. both_ways (has q.span.lower d.place) (ap (λ x. has x d.place) (sym c.lower.ensures) ∙ sym c.contains.ensures ∙ w.if-contains.false) i)
+          (moved s w.misses.result e.5 e.6 e.7 refl refl e.2 w.misses.ensures)
+    ])
     (first_fails r r refl
     (λ o. both_ways (has q.span.upper d.place) o (ap (λ x. has x d.place) (sym c.upper.ensures) ∙ sym c.contains-then-misses.ensures ∙ c.if-not-contains.false))
     (moved s r e.8 e.9 e.10 (ap decisions e.3) e.4 e.1.2 c.misses-else-not-contains.ensures)))

@@ -1,4 +1,4 @@
-use Rattle.std.proofs.Common.{sym, ◌∙◌, ◌⊎◌, inl, inr, ⊎_elim}
+use Rattle.std.proofs.Common.{sym, ◌∙◌, inl, inr, ⊎_elim}
 use Rattle.std.specs.Slice.Iter.{iter_rest}
 use Rattle.sets.specs.Walks.{decisions}
 use Rattle.weighed.specs.Extremes.{toward}

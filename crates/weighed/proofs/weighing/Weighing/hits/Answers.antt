@@ -1,9 +1,8 @@
-use Rattle.std.proofs.Common.{Bool, Decides, arith}
+use Rattle.std.proofs.Common.{arith}
 use Rattle.std.proofs.Math.Logic.{∥∥₁_elim}
 use Rattle.std.proofs.Props.{props}
 use Rattle.sets.specs.Walks.{decisions}
 use Rattle.sets.proofs.Listing.{sorted_decisions}
-use Rattle.weighed.specs.Totals.{Hits}
 use Rattle.weighed.proofs.Deciding.{hits_by_ends, bound_compared}
 use Rattle.weighed.proofs.weighing.Weighing.hits.Goals as goal
 

@@ -44,5 +44,13 @@ returns g c =
     let d = c.in_ok-d.d in (
       lowest_first c.args.self.now.domain d.place d.small c.in_ok-d.ensures ∙ ap (λ (x : ℕ). d.place ∷ decisions x) (sym c.without.ensures),
       (c.in_ok-w.w.now, c.in_ok-w.ensures.cases.0, c.with.ensures),
-      refl, refl, refl, refl, refl, refl, refl, refl, refl,
+      refl,
+      refl,
+      refl,
+      refl,
+      refl,
+      refl,
+      refl,
+      refl,
+      refl,
     )
