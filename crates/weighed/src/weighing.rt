@@ -87,10 +87,9 @@ impl<'a, M: Measure> Weighing<'a, M> {
         ensures { let g = self.now in result ≡ (M.scale.le (M.scale.bound g.low) (extreme M.scale (toward End.Least M.scale) g.span.lower g.span.upper (decisions g.domain) g.row.now g.total)
             && M.scale.le (extreme M.scale (toward End.Greatest M.scale) g.span.lower g.span.upper (decisions g.domain) g.row.now g.total) (M.scale.bound g.high)) }
     {
-        M::bound_of(self.low).not_above(self.furthest(End::Least))
-            && self
-                .furthest(End::Greatest)
-                .not_above(M::bound_of(self.high))
+        let low = M::bound_of(self.low);
+        let high = M::bound_of(self.high);
+        low.not_above(self.furthest(End::Least)) && self.furthest(End::Greatest).not_above(high)
     }
 
     // Whether every set of the span brings the total between the bounds: the least and the greatest total tell.
@@ -105,8 +104,9 @@ impl<'a, M: Measure> Weighing<'a, M> {
         ensures { let g = self.now in result ≡ (not (M.scale.le (extreme M.scale (toward End.Least M.scale) g.span.lower g.span.upper (decisions g.domain) g.row.now g.total) (M.scale.bound g.high))
             || not (M.scale.le (M.scale.bound g.low) (extreme M.scale (toward End.Greatest M.scale) g.span.lower g.span.upper (decisions g.domain) g.row.now g.total))) }
     {
-        !self.furthest(End::Least).not_above(M::bound_of(self.high))
-            || !M::bound_of(self.low).not_above(self.furthest(End::Greatest))
+        let low = M::bound_of(self.low);
+        let high = M::bound_of(self.high);
+        !self.furthest(End::Least).not_above(high) || !low.not_above(self.furthest(End::Greatest))
     }
 
     // The first decision, and the weighing of the others with its weight left off and with it laid on; none where nothing is to come.
