@@ -2,3 +2,4 @@ pub mod Meaning
 pub mod Standings
 pub mod Beside
 pub mod Tables
+pub mod Places

@@ -25,9 +25,13 @@ no_condition = record { domain = 0; first = 0; len = 0 }
 abbrev pub condition : List ListedCondition → ℕ → ListedCondition
 condition cs k = slice_index_or cs k no_condition
 
+-- each condition of a table is sound
+abbrev pub AllSound : List ListedCondition → List ℕ → Type 0
+AllSound cs sets = (k : ℕ) → k < length cs → Sound (condition cs k) sets
+
 -- valid tables: at most 256 conditions, each of them sound
 abbrev pub Valid : List ListedCondition → List ℕ → Type 0
-Valid cs sets = Few cs × ((k : ℕ) → k < length cs → Sound (condition cs k) sets)
+Valid cs sets = Few cs × AllSound cs sets
 
 -- condition k has its domain from the table, and the sets of its row as its family
 abbrev pub listed : List ListedCondition → List ℕ → Meaning

@@ -7,11 +7,18 @@ ghost use Rattle.listed.specs.Lawful.{listed_lawful};
 
 use crate::condition::ListedCondition;
 use crate::row::{holds_all, holds_none};
-use crate::tables::valid;
+use crate::tables::{row_of, valid};
 use banks::bank::Bank;
 use refusals::refusal::Refusal;
 use sets::set::Set;
 use sets::span::Span;
+
+// What a number that the table does not have stands for.
+const NO_CONDITION: ListedCondition = ListedCondition {
+    domain: 0,
+    first: 0,
+    len: 0,
+};
 
 // A bank over tables that were found valid; they stay the caller's.
 #[derive(Clone, Copy)]
@@ -49,15 +56,12 @@ impl<'a> ListedBank<'a> {
             × Says e 17 []
             × (listed self.new.conditions.now self.new.sets.now ≡ no_conditions)) }
     {
-        if valid(conditions, sets) {
-            self.conditions = conditions;
-            self.sets = sets;
-            Ok(())
-        } else {
-            self.conditions = &[];
-            self.sets = &[];
-            Err(Refusal::BadTables)
+        if !valid(conditions, sets) {
+            *self = ListedBank::new();
+            return Err(Refusal::BadTables);
         }
+        *self = ListedBank { conditions, sets };
+        Ok(())
     }
 }
 
@@ -65,33 +69,22 @@ impl ListedBank<'_> {
     fn at(&self, k: u16) -> ListedCondition
         ensures { result ≡ condition self.now.conditions.now k }
     {
-        let k = k as usize;
-        if k < self.conditions.len() {
-            self.conditions[k]
-        } else {
-            ListedCondition {
-                domain: 0,
-                first: 0,
-                len: 0,
-            }
-        }
+        self.conditions
+            .get(k as usize)
+            .copied()
+            .unwrap_or(NO_CONDITION)
     }
 
     // The sets of condition k.
     fn row_of(&self, k: u16) -> &[Set]
         ensures { result.now ≡ row (condition self.now.conditions.now k) self.now.sets.now }
     {
-        let c = self.at(k);
-        let from = c.first;
-        let to = from + c.len;
-        &self.sets[from..to]
+        row_of(&self.at(k), self.sets)
     }
 }
 
 impl Bank for ListedBank<'_> {
     ghost meaning = { λ b. listed b.conditions.now b.sets.now };
-
-    ghost lawful = { λ b. listed_lawful b.conditions.now b.sets.now b.few b.narrow b.contained };
 
     fn count(&self) -> u16 {
         self.conditions.len() as u16
@@ -108,4 +101,6 @@ impl Bank for ListedBank<'_> {
     fn never(&self, k: u16, span: Span) -> bool {
         holds_none(self.row_of(k), span.cut(self.domain(k)))
     }
+
+    ghost lawful = { λ b. listed_lawful b.conditions.now b.sets.now b.few b.narrow b.contained };
 }

@@ -1,7 +1,7 @@
-ghost use Rattle.std.specs.Prelude.{◌+◌, ◌≤◌, Decides};
+ghost use Rattle.std.specs.Prelude.{◌≡◌, ◌+◌, ◌≤◌, Decides, length};
 ghost use Rattle.sets.specs.Sets.{size};
 ghost use Rattle.sets.specs.Lists.{Ascends};
-ghost use Rattle.listed.specs.Tables.{Inside, Sound, Valid};
+ghost use Rattle.listed.specs.Tables.{row, Inside, Sound, AllSound, Valid};
 
 use crate::condition::ListedCondition;
 use banks::tables::{MAX_CONDITIONS, narrow, placed};
@@ -17,23 +17,23 @@ fn fits(c: &ListedCondition, total: usize) -> bool
 fn ascends(row: &[Set]) -> bool
     ensures { Decides result (Ascends row.now) }
 {
-    for pair in row.windows(2) {
-        if pair[0] >= pair[1] {
-            return false;
-        }
-    }
-    true
+    row.windows(2).all(|pair| pair[0] < pair[1])
 }
 
 fn inside(row: &[Set], domain: Set) -> bool
     ensures { Decides result (Inside row.now domain) }
 {
-    for set in row {
-        if !is_subset(*set, domain) {
-            return false;
-        }
-    }
-    true
+    row.iter().all(|set| is_subset(*set, domain))
+}
+
+// The sets of a condition, out of the row of all sets.
+pub(crate) fn row_of<'x>(c: &ListedCondition, sets: &'x [Set]) -> &'x [Set]
+    requires { c.now.first + c.now.len ≤ length sets.now }
+    ensures { result.now ≡ row c.now sets.now }
+{
+    let from = c.first;
+    let to = from + c.len;
+    &sets[from..to]
 }
 
 fn sound(c: &ListedCondition, sets: &[Set]) -> bool
@@ -42,23 +42,19 @@ fn sound(c: &ListedCondition, sets: &[Set]) -> bool
     if !fits(c, sets.len()) {
         return false;
     }
-    let from = c.first;
-    let to = from + c.len;
-    let row = &sets[from..to];
+    let row = row_of(c, sets);
     ascends(row) && inside(row, c.domain)
+}
+
+fn all_sound(conditions: &[ListedCondition], sets: &[Set]) -> bool
+    ensures { Decides result (AllSound conditions.now sets.now) }
+{
+    conditions.iter().all(|c| sound(c, sets))
 }
 
 // Whether the tables are valid, read whole.
 pub(crate) fn valid(conditions: &[ListedCondition], sets: &[Set]) -> bool
     ensures { Decides result (Valid conditions.now sets.now) }
 {
-    if conditions.len() > MAX_CONDITIONS {
-        return false;
-    }
-    for c in conditions {
-        if !sound(c, sets) {
-            return false;
-        }
-    }
-    true
+    conditions.len() <= MAX_CONDITIONS && all_sound(conditions, sets)
 }

@@ -50,15 +50,15 @@ impl<'a, M: Measure> WeighedBank<'a, M> {
             × Says e 17 []
             × (weighed M.scale self.new.conditions.now self.new.weights.now ≡ no_conditions)) }
     {
-        if valid::<M>(conditions, weights) {
-            self.conditions = conditions;
-            self.weights = weights;
-            Ok(())
-        } else {
-            self.conditions = &[];
-            self.weights = &[];
-            Err(Refusal::BadTables)
+        if !valid::<M>(conditions, weights) {
+            *self = WeighedBank::new();
+            return Err(Refusal::BadTables);
         }
+        *self = WeighedBank {
+            conditions,
+            weights,
+        };
+        Ok(())
     }
 }
 
@@ -104,8 +104,6 @@ impl<M: Measure> WeighedBank<'_, M> {
 impl<M: Measure> Bank for WeighedBank<'_, M> {
     ghost meaning = { λ b. weighed M.Measure.scale b.conditions.now b.weights.now };
 
-    ghost lawful = { λ b. valid_lawful M.Measure.scale b.conditions.now b.weights.now b.valid };
-
     fn count(&self) -> u16 {
         self.conditions.len() as u16
     }
@@ -121,4 +119,6 @@ impl<M: Measure> Bank for WeighedBank<'_, M> {
     fn never(&self, k: u16, span: Span) -> bool {
         self.never_at(k, span)
     }
+
+    ghost lawful = { λ b. valid_lawful M.Measure.scale b.conditions.now b.weights.now b.valid };
 }

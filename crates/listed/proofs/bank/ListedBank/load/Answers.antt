@@ -4,7 +4,7 @@ use Rattle.listed.proofs.bank.ListedBank.load.Goals as goal
 
 pub invariant_of-self : goal.invariant_of-self
 invariant_of-self c =
-    let v = c.valid.ensures.0 c.if-valid.true in
+    let v = c.valid.ensures.0 c.if-not-valid.false in
     let s = sound_at c.args.conditions.now c.args.sets.now v in
     record {
       few = v.0;

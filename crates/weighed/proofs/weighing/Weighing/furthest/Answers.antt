@@ -9,5 +9,5 @@ pub returns : goal.returns
 returns g c =
     let s = g.M.Measure.scale in let span = c.args.self.now.span in
     sym (extreme_over s (toward c.args.end s) span.lower span.upper (decisions c.loop-d.d-iterator.a.rest) (iter_rest c.loop-d.d-iterator.b) c.loop-d.t
-    (⊎_elim (λ h. inl h.1) (λ h. inr h.1.0) c.in-None.ensures.steps))
+    (⊎_elim (λ h. inl h.1.0) (λ h. inr h.1.0) c.in-None.ensures.steps))
     ∙ c.loop-d.invariant.2
