@@ -1,9 +1,9 @@
 -- The constant tables are valid, and what they mean.
-use Rattle.std.proofs.Common.{◌≡◌, ℕ, zero, suc, ◌<◌, ◌≤◌, false, eqb, List, [], ◌∷◌, get_or, ℤ, pos, Ok, Err, Result, sym, refl, ◌∙◌, not-suc-le-zero, arith, lit<, lit≤, MatchResult}
+use Rattle.std.proofs.Common.{◌≡◌, ℕ, zero, suc, ◌<◌, ◌≤◌, true, false, eqb, List, [], ◌∷◌, get_or, ℤ, pos, Ok, Err, Result, sym, refl, ◌∙◌, ⊎_elim, not-suc-le-zero, arith, lit<, lit≤, MatchResult}
 use lib.Bits.{bit_and, and_le_r}
 use lib.Count.{ones}
 use Rattle.std.specs.List.{AllByRecursion}
-use Rattle.std.proofs.lemmas.Bool.{ne_eqb, and_left, or_from}
+use Rattle.std.proofs.lemmas.Bool.{ne_eqb, and_left, or_from, cases_lt, agree_below, agree_below_at}
 use Rattle.banks.specs.Beside.{beside, at_number, number_past}
 use Rattle.banks.specs.Meaning.{Meaning}
 use Rattle.listed.specs.Tables.{listed, Valid, Sound, Inside}
@@ -83,24 +83,14 @@ far : (x : ℕ) (xs : List ℕ) → AllByRecursion (λ y. y < 8) xs → 8 ≤ x 
 far x [] a h = refl
 far x (y ∷ ys) a h = or_from (eqb y x) (member x ys) (ne_eqb y x (λ e. let l = a.0 in omega arith)) (far x ys a.1 h)
 
--- neither a family over the decisions 0, 1 and 2 nor a list of their sets has a number from 8 on
-past : {W T : Type 0} (s : Scale W T) (c : WeighedCondition W) (ws : List W) (sets : List ℕ) → c.domain ≤ 7 → AllByRecursion (λ y. y < 8) sets
-    → (f : ℕ) → 8 ≤ f → w.balanced s c ws f ≡ member f sets
-past s c ws sets low few f h =
-    and_left (inside f c.domain) (within s (s.bound c.low) (s.bound c.high) (w.total s c ws f))
-    (ne_eqb (bit_and f c.domain) f (λ e. let l = and_le_r f c.domain in omega arith)) ∙ sym (far f sets few h)
-
--- what holds of the eight sets, and of every number from 8 on
-by_eight : (P : ℕ → Type 0) → P 0 → P 1 → P 2 → P 3 → P 4 → P 5 → P 6 → P 7 → ((f : ℕ) → 8 ≤ f → P f) → (f : ℕ) → P f
-by_eight P a b c d e f g h r zero = a
-by_eight P a b c d e f g h r (suc zero) = b
-by_eight P a b c d e f g h r (suc (suc zero)) = c
-by_eight P a b c d e f g h r (suc (suc (suc zero))) = d
-by_eight P a b c d e f g h r (suc (suc (suc (suc zero)))) = e
-by_eight P a b c d e f g h r (suc (suc (suc (suc (suc zero))))) = f
-by_eight P a b c d e f g h r (suc (suc (suc (suc (suc (suc zero)))))) = g
-by_eight P a b c d e f g h r (suc (suc (suc (suc (suc (suc (suc zero))))))) = h
-by_eight P a b c d e f g h r (suc (suc (suc (suc (suc (suc (suc (suc n)))))))) = r _ (omega arith)
+-- a family over the decisions 0, 1 and 2 is a list of their sets where the two agree at the eight sets; from 8 on neither has a number
+family_is : {W T : Type 0} (s : Scale W T) (c : WeighedCondition W) (ws : List W) (sets : List ℕ) → c.domain ≤ 7 → AllByRecursion (λ y. y < 8) sets
+    → agree_below (w.balanced s c ws) (λ f. member f sets) 8 ≡ true → (f : ℕ) → w.balanced s c ws f ≡ member f sets
+family_is s c ws sets low few eight f = ⊎_elim
+    (agree_below_at (w.balanced s c ws) (λ f. member f sets) 8 f eight)
+    (λ h. and_left (inside f c.domain) (within s (s.bound c.low) (s.bound c.high) (w.total s c ws f))
+    (ne_eqb (bit_and f c.domain) f (λ e. let l = and_le_r f c.domain in omega arith)) ∙ sym (far f sets few h))
+    (cases_lt f 8)
 
 -- a table of one condition means its domain and its sets
 one_means : {W T : Type 0} (s : Scale W T) (c : WeighedCondition W) (ws : List W) (sets : List ℕ) → ((f : ℕ) → w.balanced s c ws f ≡ member f sets)
@@ -124,13 +114,12 @@ grade_line = record { domain = 5; low = 0; high = 3; first = 0 }
 pub kilos_mean : w.weighed kilos KILOS KILO_WEIGHTS ≡ kilo_part
 unfolding has decisions_below ones
 kilos_mean = one_means kilos kilo_line KILO_WEIGHTS kilo_sets
-    (by_eight _ refl refl refl refl refl refl refl refl
-    (past kilos kilo_line KILO_WEIGHTS kilo_sets (lit≤ tt) (lit< tt, (lit< tt, (lit< tt, (lit< tt, (lit< tt, (lit< tt, tt))))))))
+    (family_is kilos kilo_line KILO_WEIGHTS kilo_sets (lit≤ tt) (lit< tt, (lit< tt, (lit< tt, (lit< tt, (lit< tt, (lit< tt, tt)))))) refl)
 
 pub grades_mean : w.weighed grades GRADES GRADE_WEIGHTS ≡ grade_part
 unfolding has decisions_below ones
 grades_mean = one_means grades grade_line GRADE_WEIGHTS grade_sets
-    (by_eight _ refl refl refl refl refl refl refl refl (past grades grade_line GRADE_WEIGHTS grade_sets (lit≤ tt) (lit< tt, (lit< tt, tt))))
+    (family_is grades grade_line GRADE_WEIGHTS grade_sets (lit≤ tt) (lit< tt, (lit< tt, tt)) refl)
 
 -- ---- the three side by side
 

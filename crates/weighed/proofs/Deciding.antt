@@ -2,7 +2,7 @@
 use Rattle.std.proofs.Common.{◌≡◌, ℕ, ◌+◌, ◌<◌, ◌≤◌, Bool, true, false, cond, not, ◌&&◌, ◌||◌, ◌⊎◌, List, [], ◌∷◌, length, Decides, sym, refl, ap, ◌∙◌, subst, inl, inr, ⊎_elim, arith}
 use Rattle.std.proofs.ByRecursion.{All-weaker}
 use Rattle.std.proofs.lemmas.Bool.Decides.{Decides-at}
-use Rattle.std.proofs.lemmas.Bool.{both_ways, cases_Bool, and_parts, and_from, and_left, and_right, or_cases, or_parts, not-true, not-false}
+use Rattle.std.proofs.lemmas.Bool.{both_ways, cases_Bool, and_parts, and_from, and_left, and_right, or_cases, or_parts, not-true, not-false, cond_both, false_from_ne_true}
 use Rattle.measures.specs.Scales.{Scale, Laws, laid, Allowed, Total, Compared}
 use Rattle.sets.specs.Sets.{has, ◌∈◌, ◌∉◌, ◌⊆◌, ◌∪◌, ◌∖◌, single, Between}
 use Rattle.sets.specs.declared.span.Span.{Span}
@@ -27,20 +27,15 @@ module _ {W T : Type 0} (s : Scale W T) where
   chosen_allowed : (ds : List ℕ) (ws : List W) (f : ℕ) → Allowed s ws → Allowed s (chosen ds ws f)
   chosen_allowed [] ws f a = tt
   chosen_allowed (d ∷ ds) [] f a = tt
-  chosen_allowed (d ∷ ds) (w ∷ ws) f a = pick (has f d) (chosen_allowed ds ws f a.1)
-    where
-      pick : (b : Bool) → Allowed s (chosen ds ws f) → Allowed s (cond b (w ∷ chosen ds ws f) (chosen ds ws f))
-      pick true h = (a.0, h)
-      pick false h = h
+  chosen_allowed (d ∷ ds) (w ∷ ws) f a =
+      let rest = chosen_allowed ds ws f a.1 in cond_both (has f d) (w ∷ chosen ds ws f) (chosen ds ws f) (Allowed s) (λ _. (a.0, rest)) (λ _. rest)
 
   chosen_length : (ds : List ℕ) (ws : List W) (f : ℕ) → length (chosen ds ws f) ≤ length ws
   chosen_length [] ws f = omega arith
   chosen_length (d ∷ ds) [] f = omega arith
-  chosen_length (d ∷ ds) (w ∷ ws) f = pick (has f d) (chosen_length ds ws f)
-    where
-      pick : (b : Bool) → length (chosen ds ws f) ≤ length ws → length (cond b (w ∷ chosen ds ws f) (chosen ds ws f)) ≤ length (w ∷ ws)
-      pick true h = omega arith
-      pick false h = omega arith
+  chosen_length (d ∷ ds) (w ∷ ws) f =
+      let rest = chosen_length ds ws f in
+      cond_both (has f d) (w ∷ chosen ds ws f) (chosen ds ws f) (λ xs. length xs ≤ length (w ∷ ws)) (λ _. omega arith) (λ _. omega arith)
 
   compared_chosen : (n : ℕ) (t : T) (ds : List ℕ) (ws : List W) (f : ℕ) → Total s n t → n + length ws ≤ 12 → Allowed s ws → Compared s (laid s t (chosen ds ws f))
   compared_chosen n t ds ws f p h a =
@@ -100,16 +95,12 @@ module _ {W T : Type 0} (s : Scale W T) where
     misses_apart r e h f b =
         ⊎_elim
         (λ m. and_right (s.le low (sum f)) (s.le (sum f) high)
-        (no (s.le (sum f) high) (λ k. both_ways (s.le (ends Least) high) (not-true (s.le (ends Least) high) m)
+        (false_from_ne_true (s.le (sum f) high) (λ k. both_ways (s.le (ends Least) high) (not-true (s.le (ends Least) high) m)
         (laws.transitive (ends Least) (sum f) high (cend Least) (csum f) ch (toward_all Least f b) k))))
         (λ m. and_left (s.le low (sum f)) (s.le (sum f) high)
-        (no (s.le low (sum f)) (λ k. both_ways (s.le low (ends Greatest)) (not-true (s.le low (ends Greatest)) m)
+        (false_from_ne_true (s.le low (sum f)) (λ k. both_ways (s.le low (ends Greatest)) (not-true (s.le low (ends Greatest)) m)
         (laws.transitive low (sum f) (ends Greatest) cl (csum f) (cend Greatest) k (toward_all Greatest f b)))))
         (or_cases (not (s.le (ends Least) high)) (not (s.le low (ends Greatest))) (sym e ∙ h))
-      where
-        no : (b : Bool) → (b ≡ true → ⊥) → b ≡ false
-        no true k = absurd (k refl)
-        no false k = refl
 
   module _ (lo up : ℕ) (nested : lo ⊆ up) (low high : T) where
     -- where nothing is left to lay on, t itself hits unless it is apart
