@@ -13,13 +13,6 @@ use refusals::refusal::Refusal;
 use sets::set::Set;
 use sets::span::Span;
 
-// What a number that the table does not have stands for.
-const NO_CONDITION: ListedCondition = ListedCondition {
-    domain: 0,
-    first: 0,
-    len: 0,
-};
-
 // A bank over tables that were found valid; they stay the caller's.
 #[derive(Clone, Copy)]
 pub struct ListedBank<'a> {
@@ -66,13 +59,11 @@ impl<'a> ListedBank<'a> {
 }
 
 impl ListedBank<'_> {
+    // Condition k; the empty family of the empty domain where the table has no such number.
     fn at(&self, k: u16) -> ListedCondition
         ensures { result ≡ condition self.now.conditions.now k }
     {
-        self.conditions
-            .get(k as usize)
-            .copied()
-            .unwrap_or(NO_CONDITION)
+        self.conditions.get(k as usize).copied().unwrap_or_default()
     }
 
     // The sets of condition k.

@@ -1,5 +1,6 @@
-// One line of a table of listed conditions: a domain, and where its sets stand in the row of all sets.
-#[derive(Clone, Copy)]
+// One line of a table of listed conditions: a domain, and where its sets stand in the row of all sets. A place and a length, and no slice,
+// since this is the format of the caller's tables.
+#[derive(Clone, Copy, Default)]
 pub struct ListedCondition {
     pub domain: u64,
     pub first: usize,

@@ -391,20 +391,6 @@ module _ (lo up s : ℕ) (nested : lo ⊆ up) (fits : up < 2 ^ 64) (inside : Bet
       let k = in_from s z (subst (λ (ys : List ℕ). member z ys ≡ true) (sym e) (member_tail z s rest m)) in
       to_from first z k.0 ((h z k.0).0 (all_member (λ y. s < y) rest sorted.0 z m)))
 
-  -- and the other way round: what the list says of the next set, and of the last one
-  pub next_of_list : (x : ℕ) → Between lo up x → sets_from s lo up ≡ s ∷ sets_from x lo up → Next lo up s x
-  next_of_list x b e =
-      let sorted : Sorted (s ∷ sets_from x lo up) = subst Sorted e (sorted_from s) in (
-        all_member (λ z. s < z) (sets_from x lo up) sorted.0 x (to_from x x b (omega arith)),
-        (λ f g l. ⊎_elim (λ (q : s ≡ f). absurd (omega arith)) (λ m. (in_from x f m).1)
-            (member_cases f s (sets_from x lo up) (subst (λ (ys : List ℕ). member f ys ≡ true) e (to_from s f g (omega arith))))),
-      )
-
-  pub last_of_list : sets_from s lo up ≡ s ∷ [] → (f : ℕ) → Between lo up f → s ≤ f → f ≡ s
-  last_of_list e f g l =
-      ⊎_elim (λ (q : s ≡ f). sym q) (λ m. member-none f m)
-      (member_cases f s [] (subst (λ (ys : List ℕ). member f ys ≡ true) e (to_from s f g l)))
-
   -- the code's step
   pub after_inside : Between lo up (after 64 lo up s)
   after_inside = (

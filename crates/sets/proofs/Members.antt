@@ -3,7 +3,7 @@ use Rattle.std.proofs.Common.{◌≡◌, ℕ, zero, suc, ◌+◌, ◌*◌, ◌/�
 use native.Mathlib.Nat.{div-eq_of_lt, mul-mod_left}
 use lib.Dec.{eqb-suc-zero, eqb-zero-suc, eqb-suc-suc}
 use lib.Arith.{bin_ind}
-use lib.Bits.{bit_and, bit_or, bit_xor, and_shr, and_mod, or_shr, or_mod, xor_shr, xor_mod, and_mask, and_le_r}
+use lib.Bits.{bit_and, bit_or, bit_xor, and_shr, and_mod, or_shr, or_mod, xor_shr, xor_mod, and_le_r}
 use Rattle.std.proofs.lemmas.Bool.{cases_Bool, cases_lt, both_ways, eqb-true, eqb-false, and_parts, and_from, or_cases, or_left, or_right}
 use Rattle.std.proofs.lemmas.Bool.Decides.{Decides-eqb, Decides-like}
 use Rattle.sets.specs.Sets.{has, ◌∈◌, ◌∉◌, ◌⊆◌, ◌∩◌, ◌∪◌, ◌∖◌, single}
@@ -210,11 +210,6 @@ has_single zero zero = has_zero 1
 has_single zero (suc d) = has_suc 1 d ∙ has_none d ∙ sym (eqb-suc-zero d)
 has_single (suc k) zero = has_zero (2 ^ suc k) ∙ even_pow k ∙ sym (eqb-zero-suc k)
 has_single (suc k) (suc d) = has_suc (2 ^ suc k) d ∙ ap (λ (x : ℕ). has x d) (half_pow k) ∙ has_single k d ∙ sym (eqb-suc-suc d k)
-
--- `(s >> d) & 1 == 1`
-pub has_test : (s d : ℕ) → eqb (bit_and (s / 2 ^ d) 1) 1 ≡ has s d
-unfolding has
-has_test s d = ap (λ (x : ℕ). eqb x 1) (and_mask (s / 2 ^ d) 1)
 
 -- ---- the laws by name
 

@@ -37,6 +37,7 @@ pub fn intersection(set: Set, other: Set) -> Set
 }
 
 // Whether each decision of `inner` is in `outer`: it is then its own part there.
+#[tactic(auto, using(crate::proofs::Members::decides_sub))]
 pub fn is_subset(inner: Set, outer: Set) -> bool
     ensures { Decides result (inner ⊆ outer) }
 {

@@ -4,6 +4,7 @@ ghost use Rattle.sets.specs.Sets.{◌⊆◌, ◌∩◌, Between};
 use crate::set::{Set, intersection, is_subset};
 
 // The part of a set inside an outer one: the largest set inside both.
+#[tactic(auto, using(crate::proofs::Members::and_first, crate::proofs::Members::and_second, crate::proofs::Members::and_greatest))]
 fn part(set: Set, outer: Set) -> Set
     ensures value { result ≡ set ∩ outer }
     ensures first { result ⊆ set }

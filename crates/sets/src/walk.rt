@@ -14,6 +14,7 @@ fn zeros_above(set: Set) -> u32
 }
 
 // The places up to the highest decision of a set that is not empty, all filled.
+#[tactic(auto, using(crate::proofs::Seeking::highest_leading))]
 fn filled_to_highest(set: Set) -> Set
     requires { 0 < set }
     ensures { (d : ℕ) × Highest d set × (result ≡ 2 ^ (d + 1) - 1) }
@@ -21,7 +22,8 @@ fn filled_to_highest(set: Set) -> Set
     u64::MAX >> zeros_above(set)
 }
 
-// A place in the walk through the sets of a span, lowest first. It always stands at one of them.
+// A place in the walk through the sets of a span, lowest first. It always stands at one of them, so a step gives the next place or none:
+// as an iterator it could stand at none, and each step would ask whether it does. `Sets` is the iterator over what a walk has ahead.
 #[derive(Clone, Copy)]
 pub struct Walk {
     span: Span,
@@ -83,6 +85,7 @@ impl Walk {
     }
 
     // One step on: what was to come is the set just left, and then what is to come; none after the last set.
+    #[tactic(auto, using(crate::proofs::Listing::from_last, crate::proofs::Listing::from_next, crate::proofs::Members::sub_le))]
     pub fn next(self) -> Option<Walk>
         ensures { MatchOption result
             (sets_from self.at self.span.lower self.span.upper ≡ self.at ∷ [])

@@ -34,4 +34,4 @@ loop-d-preserved c =
 pub returns : goal.returns
 returns c =
     let ranks = c.args.ranks.now in
-    sym (ap (λ l. held c.loop-d.line ++ map (rank ranks) l) c.in-None.ensures.steps ∙ append-nil (held c.loop-d.line)) ∙ c.loop-d.invariant
+    sym (ap (λ l. held c.loop-d.line ++ map (rank ranks) l) c.in-None.ensures.steps.0 ∙ append-nil (held c.loop-d.line)) ∙ c.loop-d.invariant
