@@ -5,7 +5,7 @@ ghost use Rattle.weighed.specs.Tables.{row};
 use sets::set::count;
 
 // One line of a table of weighed conditions: a domain, two bounds, and the first place of its weights, of which there is one for each
-// decision of the domain. Places and bounds are the format of the caller's tables.
+// decision of the domain. A first place, in one row of all weights, is the format of the caller's tables.
 #[derive(Clone, Copy)]
 pub struct WeighedCondition<R> {
     pub domain: u64,
