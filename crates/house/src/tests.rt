@@ -22,14 +22,13 @@ fn holds(bank: &impl Bank, k: u16, set: Set) -> bool {
 fn house_conditions_at_every_set(rt: HostRuntime) {
     let bank = house_bank();
     assert_eq!(rt; bank.count(), 5);
-    for set in 0..8u8 {
-        let mut found = 0u8;
+    for (set, holding) in HOLDS.iter().enumerate() {
         for k in 0..5u8 {
-            if holds(&bank, k as u16, set as Set) {
-                found |= 1u8 << k;
-            }
+            assert_eq!(rt;
+                holds(&bank, k as u16, set as Set),
+                (*holding >> k) % 2 == 1
+            );
         }
-        assert_eq!(rt; found, HOLDS[set as usize]);
     }
 }
 

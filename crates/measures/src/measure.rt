@@ -15,6 +15,7 @@ pub trait Measure: Copy {
     fn is_bound(b: Self::Raw) -> bool
         ensures { result ≡ scale.fair b };
 
+    // As `From` and `Default` these two would be no plainer: the clauses of neither trait name `scale`, so two laws would have to.
     fn bound_of(b: Self::Raw) -> Self
         ensures { result ≡ scale.bound b };
 

@@ -3,7 +3,7 @@
 use Rattle.std.proofs.Common.{◌≡◌, ℕ, ◌+◌, ◌<◌, ◌≤◌, Bool, true, false, cond, not, ◌&&◌, ◌||◌, List, [], ◌∷◌, ◌++◌, length, sym, refl, ap, ◌∙◌, subst, ap₂, inl, ⊎_elim, arith, length-append}
 use Rattle.std.specs.List.{AllByRecursion}
 use Rattle.std.proofs.ByRecursion.{All-push, All-weaker}
-use Rattle.std.proofs.lemmas.Bool.{both_ways, cases_Bool, eq-eqb, ne_eqb, eqb-true, or_cases, or_right, and_parts}
+use Rattle.std.proofs.lemmas.Bool.{both_ways, cases_Bool, eq-eqb, ne_eqb, eqb-true, or_cases, or_right, and_parts, and_right, not_from_true, cond_both, false_from_ne_true}
 use Rattle.measures.specs.Scales.{Scale, Laws, laid, Allowed, Total, Compared}
 use Rattle.sets.specs.Sets.{has, ◌∈◌, ◌∉◌, ◌⊆◌, ◌∪◌, ◌∖◌, single, Between}
 use Rattle.sets.proofs.Ascending.{Sorted}
@@ -42,12 +42,7 @@ pub with_in : (f d : ℕ) → d ∈ f ∪ single d
 with_in f d = has_or f (single d) d ∙ or_right (has f d) (has (single d) d) (has_single d d ∙ eq-eqb d d refl)
 
 pub without_out : (f d : ℕ) → d ∉ f ∖ single d
-without_out f d =
-    has_minus f (single d) d ∙ ap (λ (b : Bool). has f d && not b) (has_single d d ∙ eq-eqb d d refl) ∙ and_never (has f d)
-  where
-    and_never : (b : Bool) → (b && false) ≡ false
-    and_never true = refl
-    and_never false = refl
+without_out f d = has_minus f (single d) d ∙ and_right (has f d) (not (has (single d) d)) (not_from_true (has (single d) d) (has_single d d ∙ eq-eqb d d refl))
 
 -- a decision that the upper set has may join a set between, and one that the lower set lacks may leave it
 pub between_with : (lo up f d : ℕ) → Between lo up f → d ∈ up → Between lo up (f ∪ single d)
@@ -106,47 +101,29 @@ module _ {W T : Type 0} (s : Scale W T) where
     reflexive t c = ⊎_elim (λ e. e) (λ e. o.either t t c c e) (cases_Bool (le t t))
 
     nearer_first : (t u : T) → Compared s t → Compared s u → le (nearer le t u) t ≡ true
-    nearer_first t u p q = ⊎_elim
-        (λ e. subst (λ (b : Bool). le (cond b t u) t ≡ true) (sym e) (reflexive t p))
-        (λ e. subst (λ (b : Bool). le (cond b t u) t ≡ true) (sym e) (o.either t u p q e)) (cases_Bool (le t u))
+    nearer_first t u p q = cond_both (le t u) t u (λ v. le v t ≡ true) (λ _. reflexive t p) (o.either t u p q)
 
     nearer_second : (t u : T) → Compared s t → Compared s u → le (nearer le t u) u ≡ true
-    nearer_second t u p q = ⊎_elim
-        (λ e. subst (λ (b : Bool). le (cond b t u) u ≡ true) (sym e) e)
-        (λ e. subst (λ (b : Bool). le (cond b t u) u ≡ true) (sym e) (reflexive u q)) (cases_Bool (le t u))
+    nearer_second t u p q = cond_both (le t u) t u (λ v. le v u ≡ true) (λ e. e) (λ _. reflexive u q)
 
     total_nearer : (n : ℕ) (t u : T) → Total s n t → Total s n u → Total s n (nearer le t u)
-    total_nearer n t u p q = pick (le t u)
-      where
-        pick : (b : Bool) → Total s n (cond b t u)
-        pick true = p
-        pick false = q
+    total_nearer n t u p q = cond_both (le t u) t u (Total s n) (λ _. p) (λ _. q)
 
     module _ (lo up : ℕ) where
       total_settled : (n d : ℕ) (t : T) (w : W) → Total s n t → s.ok w ≡ true → Total s (n + 1) (settled s le lo up d t w)
-      total_settled n d t w p a = pick (has lo d) (has up d)
-        where
-          more : Total s (n + 1) (s.lay t w)
-          more = total_lay n t w p a
-
-          same : Total s (n + 1) t
-          same = total_wider n (n + 1) t (omega arith) p
-
-          pick : (b c : Bool) → Total s (n + 1) (cond b (s.lay t w) (cond c (nearer le t (s.lay t w)) t))
-          pick true c = more
-          pick false true = total_nearer (n + 1) t (s.lay t w) same more
-          pick false false = same
+      total_settled n d t w p a =
+          let more = total_lay n t w p a in
+          let same = total_wider n (n + 1) t (omega arith) p in
+          cond_both (has lo d) (s.lay t w) (cond (has up d) (nearer le t (s.lay t w)) t) (Total s (n + 1)) (λ _. more)
+          (λ _. cond_both (has up d) (nearer le t (s.lay t w)) t (Total s (n + 1)) (λ _. total_nearer (n + 1) t (s.lay t w) same more) (λ _. same))
 
       -- what f lays on at d
       abbrev step : ℕ → ℕ → T → W → T
       step f d u w = cond (has f d) (s.lay u w) u
 
       total_step : (n f d : ℕ) (u : T) (w : W) → Total s n u → s.ok w ≡ true → Total s (n + 1) (step f d u w)
-      total_step n f d u w p a = pick (has f d)
-        where
-          pick : (b : Bool) → Total s (n + 1) (cond b (s.lay u w) u)
-          pick true = total_lay n u w p a
-          pick false = total_wider n (n + 1) u (omega arith) p
+      total_step n f d u w p a =
+          cond_both (has f d) (s.lay u w) u (Total s (n + 1)) (λ _. total_lay n u w p a) (λ _. total_wider n (n + 1) u (omega arith) p)
 
       -- one decision keeps the settled total toward the end
       settled_toward : (n f d : ℕ) (t u : T) (w : W) → Between lo up f → Total s n t → Total s n u → n + 1 ≤ 12 → s.ok w ≡ true → le t u ≡ true
@@ -229,8 +206,4 @@ module _ {W T : Type 0} (s : Scale W T) where
             between_with lo up f d b j,
             e ∙ ap (laid s (s.lay t w)) (apart f (f ∪ single d) (has_with f d)) ∙ taken (f ∪ single d) (with_in f d),
           )
-          pick false false n i j f b e = (f, b, e ∙ left f (out (has f d) (b.1 d)))
-            where
-              out : (y : Bool) → (y ≡ true → has up d ≡ true) → y ≡ false
-              out true h = absurd (both_ways (has up d) j (h refl))
-              out false h = refl
+          pick false false n i j f b e = (f, b, e ∙ left f (false_from_ne_true (has f d) (λ m. both_ways (has up d) j (b.1 d m))))
