@@ -1,5 +1,5 @@
 -- What `all`, `any` and `position` answer of a list that stands for another one, and the highest of a list.
-use Rattle.std.proofs.Common.{◌≡◌, ℕ, ◌<◌, max, Bool, true, false, not, List, [], ◌∷◌, map, length, get_or, is_some, Some, None, Decides, Option, sym, refl, subst, not-suc-le-zero, arith, MatchOption}
+use Rattle.std.proofs.Common.{◌≡◌, ℕ, ◌<◌, max, Bool, true, false, List, [], ◌∷◌, map, length, get_or, Some, None, Decides, Option, sym, refl, subst, not-suc-le-zero, arith, MatchOption}
 use Rattle.std.specs.Bool.{MatchBool}
 use Rattle.std.specs.List.{HoldsAt, All, AllByRecursion, AllWithin, fold}
 use Rattle.std.proofs.lemmas.List.Elements.{recursion_from_All, All-from_recursion, All-from_all_within}
@@ -66,14 +66,6 @@ module _ {X Y : Type 0} (f : X → Y) (P : Y → Type 0) where
     (λ z. subst (λ y. P y → ⊥) (sym (get_or-map f (x ∷ xs) i x z l)) (h x)),
     (λ j k z. subst P (sym (get_or-map f (x ∷ xs) j x z (omega arith))) (before j x (omega arith) k)),
   )
-
-  -- no place fails exactly where all pass
-  pub none_failing : (xs : List X) (o : Option ℕ) (Q : ℕ → Type 0) (r : Bool)
-      → MatchOption o (AllByRecursion P (map f xs)) (λ i. (i < length xs) × HoldsAt (λ x. P (f x) → ⊥) xs i × Q i) → is_some o ≡ not r → Decides r (AllByRecursion P (map f xs))
-  none_failing xs None Q true c e = ((λ _. c), (λ _. refl))
-  none_failing xs None Q false c e = absurd (both_ways false refl e)
-  none_failing xs (Some i) Q true c e = absurd (both_ways true e refl)
-  none_failing xs (Some i) Q false (l, h, q) e = ((λ y. absurd (both_ways false refl y)), (λ a. absurd (not_all xs i l h a)))
 
 -- ---- the highest
 

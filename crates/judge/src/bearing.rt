@@ -21,7 +21,7 @@ pub fn ranked(ranks: &[u8], set: Set) -> bool
     Ranks::try_from(ranks).is_ok_and(|ranks| ranks.fits(set))
 }
 
-impl<'a, B: Bank> Program<'a, B> {
+impl<B: Bank> Program<'_, B> {
     // Whether the rule gives decision b over the span.
     fn gives(&self, rule: &Rule, span: Span, b: Decision) -> bool
         ensures { Decides result (Gives (B.meaning self.now.bank.now) (way_of self.now.way) span.lower span.upper b.place (rule_of rule.now)) }

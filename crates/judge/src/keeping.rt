@@ -71,5 +71,5 @@ pub fn lowest_broken<B: Bank>(bank: &B, rules: &[Rule], set: Set) -> Option<usiz
 pub fn keeps_all<B: Bank>(bank: &B, rules: &[Rule], set: Set) -> bool
     ensures { Decides result (AllByRecursion (Keeps (B.meaning bank.now) set) (rules_of rules.now)) }
 {
-    lowest_broken(bank, rules, set).is_none()
+    rules.iter().all(|rule| keeps(bank, rule, set))
 }

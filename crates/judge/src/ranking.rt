@@ -15,7 +15,7 @@ use banks::bank::Bank;
 use sets::set::Set;
 use sets::span::Span;
 
-impl<'a, B: Bank> Program<'a, B> {
+impl<B: Bank> Program<'_, B> {
     // The rank of each decision: the first round that has it, or 0. The rounds end when they have reached the set, or when one adds nothing; so
     // there are no more of them than the set has decisions.
     fn first_rounds(&self, set: Set) -> Ranks

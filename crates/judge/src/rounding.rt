@@ -8,7 +8,7 @@ use banks::bank::Bank;
 use sets::set::{Set, contains, with};
 use sets::span::Span;
 
-impl<'a, B: Bank> Program<'a, B> {
+impl<B: Bank> Program<'_, B> {
     // One round: the lower set of the span with the heads of all rules whose entries are carried over it. A rule whose head is there already
     // is not looked at, and one is left at its first entry that is not carried.
     pub(crate) fn advance(&self, span: Span) -> Set

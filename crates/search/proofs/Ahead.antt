@@ -1,8 +1,8 @@
 -- Going through what a walk has ahead, set by set.
-use Rattle.std.proofs.Common.{◌≡◌, ℕ, ◌+◌, ◌<◌, List, [], ◌∷◌, ◌++◌, length, Some, None, Option, sym, ap, ◌∙◌, subst, arith, MatchOption}
+use Rattle.std.proofs.Common.{◌≡◌, ℕ, ◌+◌, List, [], ◌∷◌, ◌++◌, length, Some, None, Option, sym, ap, ◌∙◌, arith, MatchOption}
 use Rattle.std.specs.List.{AllByRecursion}
-use Rattle.std.proofs.ByRecursion.{All-append}
-use Rattle.std.proofs.lemmas.List.{append_assoc, append-nil, length-append, length_push}
+use Rattle.std.proofs.lemmas.List.{append_assoc, length_push}
+use Rattle.answer_sets.proofs.Each.{all_join}
 use Rattle.sets.specs.Walks.{sets_from}
 use Rattle.sets.specs.declared.span.Span.{Span}
 use Rattle.sets.specs.declared.walk.Walk.{Walk}
@@ -24,15 +24,5 @@ passed_more P {all} {rest} {rest'} {s} e k h (before, split, count, each) = (
   before ++ (s ∷ []),
   split ∙ ap (λ (l : List ℕ). before ++ l) e ∙ sym (append_assoc before (s ∷ []) rest'),
   omega (arith, length_push before s),
-  All-append P before (s ∷ []) each (h, tt),
+  all_join P before (s ∷ []) each (h, tt),
 )
-
--- as long as one is to come, fewer than all are left behind
-pub passed_fewer : (P : ℕ → Type 0) {all rest rest' : List ℕ} {s n : ℕ} → rest ≡ s ∷ rest' → Passed P all rest n → n < length all
-passed_fewer P {all} {rest} e (before, split, count, each) = omega (arith, ap length split, length-append before rest, ap length e)
-
--- where none is to come, all are left behind
-pub passed_all : (P : ℕ → Type 0) {all rest : List ℕ} {n : ℕ} → rest ≡ [] → Passed P all rest n → (n ≡ length all) × AllByRecursion P all
-passed_all P {all} e (before, split, count, each) =
-    let same : before ≡ all = sym (split ∙ ap (λ (l : List ℕ). before ++ l) e ∙ append-nil before) in
-    (count ∙ ap length same, subst (AllByRecursion P) same each)

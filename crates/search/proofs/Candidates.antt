@@ -1,12 +1,11 @@
 -- The candidates of a search: how many they are, and that every answer set is among them.
-use Rattle.std.proofs.Common.{◌≡◌, ℕ, ◌^◌, ◌<◌, ◌≤◌, true, not, leb, List, [], ◌∷◌, ◌++◌, length, Some, None, Option, sym, refl, ap, ◌∙◌, subst, ap₂, ⊎_elim, arith, pow_mono, MatchOption}
+use Rattle.std.proofs.Common.{◌≡◌, ℕ, ◌^◌, ◌<◌, ◌≤◌, true, not, leb, List, [], ◌∷◌, ◌++◌, length, sym, refl, ap, ◌∙◌, subst, ⊎_elim, arith, pow_mono}
 use lib.Bits.{bit_xor, and_zero_r, xor_zero_r}
 use Rattle.std.specs.List.{AllByRecursion}
 use Rattle.std.proofs.lemmas.List.Filters.{length-filter_both}
 use Rattle.sets.specs.Sets.{◌⊆◌, ◌∖◌, size}
 use Rattle.sets.specs.Lists.{member}
-use Rattle.sets.specs.Walks.{sets_between, sets_from}
-use Rattle.sets.specs.declared.walk.Walk.{Walk}
+use Rattle.sets.specs.Walks.{sets_between}
 use Rattle.sets.proofs.Members.{sub_lt}
 use Rattle.sets.proofs.Ascending.{member_append, member_append_right, member_cases, member_head, all_member, Sorted}
 use Rattle.sets.proofs.Listing.{between_listed, in_from, to_from, sorted_from}
@@ -16,14 +15,6 @@ use Rattle.answer_sets.specs.Rules.{Way, Rule, Borne}
 use Rattle.answer_sets.proofs.Answer.{borne_is_answer_set}
 use Rattle.answer_sets.proofs.Bearing.{given}
 use Rattle.search.specs.Search.{Heads, candidates, LowestAnswer, NoAnswer}
-use Rattle.search.specs.Ahead.{to_come}
-
--- what the walk that was sought has to come
-pub sought : (o : Option Walk) (start H : ℕ)
-    → MatchOption o (sets_from start 0 H ≡ []) (λ w. (w.span.lower ≡ 0) × (w.span.upper ≡ H) × (sets_from start 0 H ≡ sets_from w.at 0 H))
-    → to_come o ≡ candidates start H
-sought None start H c = sym c
-sought (Some w) start H (p, q, e) = ap₂ (λ (x y : ℕ). sets_from w.at x y) p q ∙ sym e
 
 sorted_right : (xs ys : List ℕ) → Sorted (xs ++ ys) → Sorted ys
 sorted_right [] ys s = s

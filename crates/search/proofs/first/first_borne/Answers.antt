@@ -1,20 +1,10 @@
-use Rattle.std.proofs.Common.{ℕ, ◌+◌, List, [], ◌∷◌, ◌++◌, sym, refl, ap, ◌∙◌, subst, arith}
+use Rattle.std.proofs.Common.{ℕ, subst}
 use Rattle.std.proofs.lemmas.Bool.Decides.{not_from_Decides}
 use Rattle.answer_sets.specs.Rules.{Keeps, Borne}
 use Rattle.judge.proofs.Passing.{fails}
 use Rattle.rules.specs.Shapes.{way_of, rule_of, rules_of}
-use Rattle.search.specs.Ahead.{to_come}
-use Rattle.search.proofs.Ahead.{to_come_step, passed_more, passed_fewer, passed_all}
+use Rattle.search.proofs.Ahead.{to_come_step, passed_more}
 use Rattle.search.proofs.first.first_borne.Goals as goal
-
-pub sets-init : goal.sets-init
-sets-init g c = ([], refl, refl, tt)
-
-pub one_more-tried-requires : goal.one_more-tried-requires
-one_more-tried-requires g c =
-    let m = g.B.Bank.meaning c.args.program.now.bank.now in
-    let P : ℕ → Type 0 = λ n. Borne m (way_of c.args.program.now.way) (rules_of c.args.program.now.rules.now) n → ⊥ in
-    omega (arith, passed_fewer P (to_come_step c.next-ahead.result c.in-Some.is c.next-ahead.ensures) c.sets.invariant)
 
 pub sets-preserved-then-not-keeps : goal.sets-preserved-then-not-keeps
 sets-preserved-then-not-keeps g c =
@@ -32,22 +22,3 @@ sets-preserved g c =
     let P : ℕ → Type 0 = λ n. Borne m (way_of c.args.program.now.way) (rules_of c.args.program.now.rules.now) n → ⊥ in
     passed_more P (to_come_step c.next-ahead.result c.in-Some.is c.next-ahead.ensures) c.one_more-tried.ensures
     (subst P c.set-set.ensures (not_from_Decides c.is_borne.result c.is_borne.ensures c.if-is_borne.false)) c.sets.invariant
-
-pub returns-in_default : goal.returns-in_default
-returns-in_default g c =
-    let m = g.B.Bank.meaning c.args.program.now.bank.now in
-    let P : ℕ → Type 0 = λ n. Borne m (way_of c.args.program.now.way) (rules_of c.args.program.now.rules.now) n → ⊥ in
-    let k = passed_all P (ap to_come c.in_default.is) c.sets.invariant in
-    record { count = k.0; none = k.1 }
-
-pub returns-then-is_borne : goal.returns-then-is_borne
-returns-then-is_borne g c =
-    let i = c.sets.invariant in
-    record {
-      before = i.0;
-      split = i.1 ∙ ap (λ (l : List ℕ). i.0 ++ l)
-          (to_come_step c.next-ahead.result c.in-Some.is c.next-ahead.ensures ∙ ap (λ (s : ℕ). s ∷ to_come c.next-ahead.result) (sym c.set-set.ensures));
-      count = c.one_more-tried.ensures ∙ ap (λ (n : ℕ). n + 1) i.2;
-      borne = c.is_borne.ensures.0 c.if-is_borne.true;
-      none_before = i.3;
-    }

@@ -17,13 +17,6 @@ sets-init g c =
       placing_none c.new-list.ensures.none refl,
     )
 
-pub sets-smaller : goal.sets-smaller
-sets-smaller g c =
-    let m = g.B.Bank.meaning c.args.program.now.bank.now in let w = way_of c.args.program.now.way in let rs = rules_of c.args.program.now.rules.now in
-    let stop = c.first_borne-stop.result in let s = c.in-Some.set in let coming = to_come c.sets.ahead in let rest = to_come stop.ahead in
-    let k = MatchOption-at_some (NoneBorne m w rs coming stop.tried) (FirstBorne m w rs coming rest stop.tried) s c.in-Some.is c.first_borne-stop.ensures in
-    fewer_rest m w rs coming rest stop.tried s c.sets.invariant.2 k
-
 pub sets-preserved : goal.sets-preserved
 sets-preserved g c =
     let m = g.B.Bank.meaning c.args.program.now.bank.now in let w = way_of c.args.program.now.way in let rs = rules_of c.args.program.now.rules.now in

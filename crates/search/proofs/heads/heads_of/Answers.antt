@@ -1,13 +1,11 @@
-use Rattle.std.proofs.Common.{◌≡◌, List, sym, ap, ◌∙◌, subst, inl, inr, ⊎_elim, arith, take_all}
+use Rattle.std.proofs.Common.{◌≡◌, sym, ap, ◌∙◌, inl, inr, ⊎_elim}
 use Rattle.std.proofs.lemmas.Bool.{both_ways}
 use Rattle.sets.specs.Sets.{has}
 use Rattle.sets.proofs.Members.{has_none}
 use Rattle.answer_sets.specs.Rules as meant
 use Rattle.answer_sets.specs.Rules.{decision}
 use Rattle.judge.proofs.Growing.{any_more, more_any}
-use Rattle.rules.specs.Shapes.{head_of, rule_of, rules_of}
-use Rattle.rules.specs.declared.rule.Rule.{Rule}
-use Rattle.search.specs.Search.{Heads}
+use Rattle.rules.specs.Shapes.{head_of, rule_of}
 use Rattle.search.proofs.heads.heads_of.Goals as goal
 
 pub loop-rule-init : goal.loop-rule-init
@@ -23,6 +21,3 @@ loop-rule-preserved c d =
       (λ a. (c.with_head-heads.ensures d).1
           (⊎_elim (λ o. inl ((c.loop-rule.invariant d).1 o)) (λ e. inr (same ∙ e)) (any_more rule_of xs i x c.loop-rule-test.true c.rule-item.is P a))),
     )
-
-pub returns : goal.returns
-returns c = subst (λ (xs : List Rule). Heads (rules_of xs) c.loop-rule.heads) (take_all c.loop-rule.rule-index c.args.rules.now (omega arith)) c.loop-rule.invariant

@@ -4,10 +4,8 @@ use Rattle.sets.specs.declared.decision.Decision.{Decision}
 use Rattle.std.proofs.lemmas.Bool.Decides.{not_from_Decides}
 use Rattle.answer_sets.specs.Rules as meant
 use Rattle.answer_sets.specs.Rules.{Carried, decision}
-use Rattle.rules.specs.Shapes.{way_of, rule_of, rules_of, head_of, entry_of}
+use Rattle.rules.specs.Shapes.{way_of, rule_of, head_of, entry_of}
 use Rattle.rules.specs.declared.entry.Entry.{Entry}
-use Rattle.rules.specs.declared.rule.Rule.{Rule}
-use Rattle.judge.specs.Reached.{GivenBy}
 use Rattle.judge.proofs.Passing.{fails, all_mapped}
 use Rattle.judge.proofs.Growing.{given_more, grown_has, grown_none, grown_not, grown_with}
 use Rattle.std.proofs.lemmas.List.Elements.{All-more}
@@ -65,9 +63,3 @@ rules-preserved g c =
     (ap head_of (sym c.head.ensures ∙ c.in-Some.is)) c.with-out.result c.with-out.ensures
     (subst (λ (xs : List Entry). AllByRecursion P (map entry_of xs)) c.body-body.ensures (all_mapped entry_of P b (take_all c.loop-e.e-index b (omega arith)) c.loop-e.invariant)))
     c.rules.invariant
-
-pub returns : goal.returns
-returns g c d =
-    let m = g.B.Bank.meaning c.args.self.now.bank.now in
-    subst (λ (xs : List Rule). GivenBy m (way_of c.args.self.now.way) c.args.span.lower c.args.span.upper (rules_of xs) d c.rules.out)
-    (take_all c.rules.rule-index c.args.self.now.rules.now (omega arith)) (c.rules.invariant d)
