@@ -19,29 +19,6 @@ use Rattle.sets.proofs.Listing.{decisions_listed}
 use Rattle.sets.specs.declared.decision.Decision.{Decision}
 use Rattle.sets.specs.declared.decisions.Decisions.{Decisions}
 
--- what one call of `next` does
-abbrev pub Steps : Decisions → Option Decision → Decisions → Type 0
-Steps s r t = MatchOption r (decisions s.rest ≡ []) (λ d. decisions s.rest ≡ d.place ∷ decisions t.rest)
-
-pub decisions_yield : (s : Decisions) (t : ℕ) → s.rest ≡ t → YieldsList Steps (λ d. d.place) s (decisions t)
-decisions_yield s t e =
-    subst (λ (x : ℕ). YieldsList Steps (λ d. d.place) s (decisions x)) e
-    (YieldsList-from_shown Steps (λ d. d.place) (λ u. decisions u.rest) (λ u v h. ap length h) (λ u d v h. h) s)
-
--- ---- what `all` answers of the decisions of a set
-
-module _ (s : ℕ) (fits : s < 2 ^ 64) (P : ℕ → Type 0) where
-  decision_at : (k : ℕ) → k < length (decisions s) → get_or (decisions s) k 0 ∈ s
-  decision_at k l = (decisions_listed.exactly s (get_or (decisions s) k 0) fits).0 (member_at (decisions s) k l)
-
-  pub decides_each : (r : Bool) → MatchBool r (AllWithin P (decisions s) 0 (length (decisions s)))
-      ((k : ℕ) × (k < length (decisions s)) × HoldsAt (λ d. P d → ⊥) (decisions s) k) → Decides r ((d : ℕ) → d ∈ s → P d)
-  decides_each true h = (
-    (λ _ d i. let p = member_place d (decisions s) ((decisions_listed.exactly s d fits).1 i) in subst P p.2 (h p.0 0 (omega arith) p.1)),
-    (λ _. refl),
-  )
-  decides_each false (k, l, h) = ((λ y. absurd (both_ways false refl y)), (λ a. absurd (h 0 (a (get_or (decisions s) k 0) (decision_at k l)))))
-
 -- ---- all sixty-four
 
 every : ℕ → Bool
