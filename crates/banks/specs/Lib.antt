@@ -3,3 +3,4 @@ pub mod Standings
 pub mod Beside
 pub mod Tables
 pub mod Places
+pub mod Shown

@@ -1,5 +1,7 @@
+use std::fmt;
+
 // How a condition stands while some decisions are still open.
-#[derive(Clone, Copy)]
+#[derive(Clone, Copy, Debug, PartialEq, Eq)]
 pub enum Standing {
     // met whatever else is decided
     Met,
@@ -7,4 +9,19 @@ pub enum Standing {
     Lost,
     // depends on what else is decided
     Open,
+}
+
+impl fmt::Display for Standing {
+    ghost use Rattle.std.specs.Prelude.{Some};
+    ghost use Rattle.banks.specs.Shown.{standing_text};
+
+    ghost output = { λ standing. Some (standing_text standing) };
+
+    fn fmt<W: fmt::Write>(&self, f: &mut fmt::Formatter<W>) -> fmt::Result {
+        f.write_str(match self {
+            Standing::Met => "met whatever else is decided",
+            Standing::Lost => "can no longer be met",
+            Standing::Open => "open",
+        })
+    }
 }

@@ -3,7 +3,6 @@
 
 mod booking;
 mod seeking;
-mod shown;
 
 use crate::booking::day;
 use crate::seeking::search;

@@ -1,52 +1,43 @@
 // The search at work: the lowest answer set from a start, and all of them.
-use crate::booking::{name, refused};
-use crate::shown::Braces;
 use book::open_book::OpenBook;
 use house::bank::{House, house_bank};
-use rows::listing::Ending;
+use rules::entry::NOT;
 use rules::way::Way;
 use sets::set::Set;
+use shown::braces::Braces;
 use std::io;
-
-// What "not" adds to the number of an entry.
-const NOT: u16 = 0x8000;
 
 // One line on the next answer set.
 fn sought(rt: &impl Print, book: &OpenBook<House>, way: Way, start: Set) -> io::Result<()> {
-    let by = name(way);
     match book.next(way, start) {
         Ok((set, tried)) => {
             let shown = Braces(set);
-            println!(rt; "next from {start} by {by}: {shown}, tried {tried}")
+            println!(rt; "next from {start} by {way}: {shown}, tried {tried}")
         }
-        Err(refusal) => {
-            print!(rt; "from {start} by {by} ")?;
-            refused(rt, "next", refusal)
-        }
+        Err(refusal) => println!(rt; "from {start} by {way} next: {refusal}"),
     }
 }
 
 // The answer sets, as many as one place takes.
 fn gathered(rt: &impl Print, book: &OpenBook<House>, way: Way) -> io::Result<()> {
-    let by = name(way);
     let mut places: [Set; 1] = [0];
     match book.gather(way, 0, &mut places) {
         Ok(listing) => {
-            print!(rt; "gathered by {by}:")?;
-            if listing.placed == 1 {
-                let shown = Braces(places[0]);
+            print!(rt; "gathered by {way}:")?;
+            for set in places.iter().take(listing.placed) {
+                let shown = Braces(*set);
                 print!(rt; " {shown}")?;
             }
-            ended(rt, listing.ending)
+            ended(rt, listing.unplaced)
         }
-        Err(refusal) => refused(rt, "gather", refusal),
+        Err(refusal) => println!(rt; "gather: {refusal}"),
     }
 }
 
-fn ended(rt: &impl Print, ending: Ending<Set>) -> io::Result<()> {
-    match ending {
-        Ending::Complete => println!(rt; ", complete"),
-        Ending::NoPlace(set) => {
+fn ended(rt: &impl Print, unplaced: Option<Set>) -> io::Result<()> {
+    match unplaced {
+        None => println!(rt; ", complete"),
+        Some(set) => {
             let shown = Braces(set);
             println!(rt; ", no place for {shown}")
         }

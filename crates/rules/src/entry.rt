@@ -1,5 +1,5 @@
 // What "not" adds to an entry's number.
-const NOT: u16 = 0x8000;
+pub const NOT: u16 = 0x8000;
 
 // An entry of a rule's body: a condition's number, with or without "not" before it.
 #[derive(Clone, Copy, Debug, PartialEq, Eq)]

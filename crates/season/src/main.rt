@@ -3,7 +3,6 @@
 #![tactic(auto)]
 
 use banks::bank::Bank;
-use banks::standing::Standing;
 use banks::verdict::standing_of;
 use house::bank::{House, house_bank};
 use judge::keeping::lowest_broken;
@@ -43,14 +42,6 @@ const HEAVY: [WeighedCondition<i32>; 1] = [WeighedCondition {
 
 const HEAVY_WEIGHTS: [i32; 1] = [1_000_001];
 
-fn words(standing: Standing) -> &'static str {
-    match standing {
-        Standing::Met => "met whatever else is decided",
-        Standing::Lost => "can no longer be met",
-        Standing::Open => "open",
-    }
-}
-
 // One line for each condition of the bank.
 fn report<B: Bank>(rt: &impl Print, bank: &B, decided: Set, possible: Set) -> io::Result<()> {
     let span = Span::new(decided, possible);
@@ -58,7 +49,7 @@ fn report<B: Bank>(rt: &impl Print, bank: &B, decided: Set, possible: Set) -> io
     let left = Braces(span.upper());
     println!(rt; "decided {made}, possible {left}")?;
     for k in 0..bank.count() {
-        let says = words(standing_of(bank, k, span));
+        let says = standing_of(bank, k, span);
         println!(rt; "condition {k}: {says}")?;
     }
     Ok(())
