@@ -7,6 +7,9 @@ ghost use Rattle.archive.specs.Writing.{over, Puts};
 use hexlines::digits::digits_of;
 use hexlines::line::Line;
 
+// Memory and place stay two parameters below: a struct that held the `&mut` would put a clause more into each contract, on whose memory
+// it is.
+
 // Writes one character.
 fn put(memory: &mut [u8], at: usize, c: u8)
     requires { at < length memory.old }

@@ -43,7 +43,7 @@ impl<B: Bank> OpenBook<B> {
     }
 
     // Puts a rule last, and answers its number. The head is a decision's number, or 255 for none; an entry is a condition's number, and
-    // 0x8000 more with "not" before it.
+    // 0x8000 more with "not" before it. They come as numbers, since the call refuses those that name nothing.
     pub fn enter(&mut self, head: u8, body: &[u16]) -> Result<usize, Refusal>
         ensures step { Step (B.meaning self.old.ledger.bank) (view self.old.ledger) (enter head body.now) (answer_of result) (view self.new.ledger) }
         ensures same { self.new.ledger.bank ≡ self.old.ledger.bank }

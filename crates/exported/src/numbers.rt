@@ -1,6 +1,6 @@
 use listed::condition::ListedCondition;
 
-// A condition by its numbers: its domain, and where its sets stand in the row of all sets.
+// A condition by its numbers, as the interface for C lays them out: its domain, and where its sets stand in the row of all sets.
 #[repr(C)]
 #[derive(Clone, Copy)]
 pub struct ConditionNumbers {
@@ -24,7 +24,7 @@ impl From<&ConditionNumbers> for ListedCondition {
     }
 }
 
-// A rule by its numbers: its head, and the first `len` of its body's places.
+// A rule by its numbers, as the interface for C lays them out: its head, and the first `len` of its body's places.
 #[repr(C)]
 #[derive(Clone, Copy)]
 pub struct RuleNumbers {
@@ -33,7 +33,7 @@ pub struct RuleNumbers {
     pub body: [u16; 8],
 }
 
-// The set that a search found, and how many it tried.
+// The set that a search found, and how many it tried: a C caller has no tuple.
 #[repr(C)]
 #[derive(Clone, Copy)]
 pub struct FoundNumbers {

@@ -55,7 +55,7 @@ fn search_numbered(
     search_over(table.as_slice(), sets, rules, way, start)
 }
 
-// The same for a caller in C or Rust. It answers 0 where there is such a set, and writes it with the number of sets tried. Else it answers
+// The same for a caller in C or Rust, whose interface has numbers and a place for the answer. It answers 0 where there is such a set, and writes it with the number of sets tried. Else it answers
 // the refusal's number, and writes the empty set with the value told: by 28, that there is none, the number of sets tried.
 #[unsafe(no_mangle)]
 pub extern "C" fn season_next_set(

@@ -5,7 +5,7 @@ use rules::way::Way;
 pub enum Frame<'a> {
     // first, once: how many conditions the bank has
     Header { count: u16 },
-    // a rule, by the numbers of its head and entries
+    // a rule, by the numbers of its head and entries: whether they name any is for the book to refuse
     Rule { head: u8, entries: &'a [u8] },
     // a page: its way, its set, and the ranks of the set's decisions, the lowest decision first
     Page { way: Way, set: u64, ranks: &'a [u8] },

@@ -3,7 +3,7 @@ ghost use Rattle.std.specs.Prelude.{◌≡◌, Ok, Err, codes, ◌≢◌};
 use refusals::refusal::Refusal;
 use rules::way::Way;
 
-// The way that a text names.
+// The way that a text names. A function and no FromStr: what refuses a call by number stands above the crate that declares the ways.
 pub fn way_named(text: &str) -> Result<Way, Refusal>
     ensures reduct { text.now ≡ codes "reduct" → result ≡ Ok Way.Reduct }
     ensures complement { text.now ≡ codes "complement" → result ≡ Ok Way.Complement }

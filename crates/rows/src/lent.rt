@@ -2,7 +2,7 @@ ghost use Rattle.std.specs.Prelude.{◌≡◌};
 
 mod putting;
 
-// A list over memory that the caller lends: the first `len` places are filled.
+// A list over memory that the caller lends, since nothing here may allocate: the first `len` places are filled.
 #[derive(Drop)]
 pub struct LentList<'a, T: Copy> {
     places: &'a mut [T],
