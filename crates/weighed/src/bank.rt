@@ -104,8 +104,6 @@ impl<M: Measure> WeighedBank<'_, M> {
 impl<M: Measure> Bank for WeighedBank<'_, M> {
     ghost meaning = { λ b. guarded M.Measure.scale b.conditions.now b.weights.now };
 
-    ghost lawful = { λ b. guarded_lawful M.Measure.scale b.conditions.now b.weights.now b.few b.narrow };
-
     fn count(&self) -> u16 {
         self.conditions.len() as u16
     }
@@ -121,4 +119,6 @@ impl<M: Measure> Bank for WeighedBank<'_, M> {
     fn never(&self, k: u16, span: Span) -> bool {
         self.never_at(k, span)
     }
+
+    ghost lawful = { λ b. guarded_lawful M.Measure.scale b.conditions.now b.weights.now b.few b.narrow };
 }
