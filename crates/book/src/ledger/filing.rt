@@ -14,6 +14,7 @@ use crate::ledger::Ledger;
 use crate::limits::MAX_PAGES;
 use crate::page::Page;
 use banks::bank::Bank;
+use judge::bearing::ranked;
 use judge::keeping::lowest_broken;
 use judge::ranks::Ranks;
 use refusals::refusal::Refusal;
@@ -26,10 +27,10 @@ fn fitting(bytes: &[u8], set: Set) -> Result<Ranks, Refusal>
         (λ ranks. (ranks.bytes ≡ bytes.now) × Ranked set bytes.now)
         (λ e. (e ≡ BadRanks) × (Ranked set bytes.now → ⊥)) }
 {
-    match Ranks::try_from(bytes) {
-        Ok(ranks) if ranks.fits(set) => Ok(ranks),
-        _ => Err(Refusal::BadRanks),
+    if !ranked(bytes, set) {
+        return Err(Refusal::BadRanks);
     }
+    Ranks::try_from(bytes).map_err(|_| Refusal::BadRanks)
 }
 
 // A page on so many rules.
