@@ -1,6 +1,7 @@
 -- All and Any over a list, by tests, by maps and by filters.
-use Rattle.std.proofs.Common.{◌≡◌, ℕ, zero, suc, ◌<◌, Bool, true, false, cond, ◌⊎◌, List, [], ◌∷◌, ◌++◌, map, length, get_or, filter, refl, subst, inl, inr, ⊎_elim, le_of_suc-le-suc, not-suc-le-zero}
-use Rattle.std.specs.List.{AllByRecursion}
+use Rattle.std.proofs.Common.{◌≡◌, ℕ, zero, suc, ◌<◌, Bool, true, false, cond, ◌⊎◌, List, [], ◌∷◌, ◌++◌, map, length, get_or, filter, refl, subst, inl, inr, ⊎_elim, le_of_suc-le-suc, not-suc-le-zero, arith}
+use Rattle.std.specs.Bool.{MatchBool}
+use Rattle.std.specs.List.{AllByRecursion, AllWithin, HoldsAt}
 use Rattle.std.proofs.lemmas.Bool.{both_ways, and_parts, and_from, or_cases, or_left, or_right}
 use Rattle.answer_sets.specs.Rules.{Any}
 use Rattle.answer_sets.specs.Tests.{allb, anyb}
@@ -140,3 +141,23 @@ pub any_at : {X : Type 0} (P : X → Type 0) (xs : List X) (i : ℕ) (d x : X) �
 any_at P [] i d x l e h = absurd (not-suc-le-zero l)
 any_at P (y ∷ ys) zero d x l e h = inl (subst P e h)
 any_at P (y ∷ ys) (suc i) d x l e h = inr (any_at P ys i d x (le_of_suc-le-suc l) e h)
+
+-- and all are where each one at a place is
+pub all_from_within : {X : Type 0} (P : X → Type 0) (xs : List X) → AllWithin P xs 0 (length xs) → AllByRecursion P xs
+all_from_within P [] h = tt
+all_from_within P (x ∷ xs) h = (h 0 x (omega arith) (omega arith), all_from_within P xs (λ k d _ l. h (suc k) d (omega arith) (omega arith)))
+
+pub any_from_at : {X : Type 0} (P : X → Type 0) (xs : List X) → (k : ℕ) × (k < length xs) × HoldsAt P xs k → Any P xs
+any_from_at P [] h = absurd (not-suc-le-zero h.1)
+any_from_at P (x ∷ xs) h = any_at P (x ∷ xs) h.0 x (get_or (x ∷ xs) h.0 x) h.1 refl (h.2 x)
+
+-- what an iterator's `all` and `any` answer, of the whole list
+pub each_from_all : {X : Type 0} (Yes No : X → Type 0) (xs : List X) (r : Bool) →
+    MatchBool r (AllWithin Yes xs 0 (length xs)) ((k : ℕ) × (k < length xs) × HoldsAt No xs k) → MatchBool r (AllByRecursion Yes xs) (Any No xs)
+each_from_all Yes No xs true h = all_from_within Yes xs h
+each_from_all Yes No xs false h = any_from_at No xs h
+
+pub each_from_any : {X : Type 0} (Yes No : X → Type 0) (xs : List X) (r : Bool) →
+    MatchBool r ((k : ℕ) × (k < length xs) × HoldsAt Yes xs k) (AllWithin No xs 0 (length xs)) → MatchBool r (Any Yes xs) (AllByRecursion No xs)
+each_from_any Yes No xs true h = any_from_at Yes xs h
+each_from_any Yes No xs false h = all_from_within No xs h

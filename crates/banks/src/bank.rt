@@ -8,9 +8,6 @@ use sets::span::Span;
 pub trait Bank {
     ghost meaning: { Self → Meaning };
 
-    // What each bank owes beside its answers.
-    ghost lawful: { (b : Self) → Lawful (meaning b) };
-
     // The number of conditions.
     fn count(&self) -> u16
         ensures { result ≡ (meaning self.now).count };
@@ -26,4 +23,7 @@ pub trait Bank {
     // Whether condition k holds at no set of the span.
     fn never(&self, k: u16, span: Span) -> bool
         ensures { Decides result (Never (meaning self.now) k span.lower span.upper) };
+
+    // What each bank owes beside its answers.
+    ghost lawful: { (b : Self) → Lawful (meaning b) };
 }

@@ -5,9 +5,8 @@ use Rattle.banks.specs.Meaning.{Meaning}
 use Rattle.answer_sets.specs.Rules.{Rule, Keeps}
 use Rattle.refusals.specs.declared.refusal.Refusal.{Refusal}
 use Rattle.refusals.specs.Numbers.{Says}
-use Rattle.rules.specs.Shapes.{way_of}
+use Rattle.rules.specs.Shapes.{way_of, head_of}
 use Rattle.account.specs.Account.{Page, Account}
-use Rattle.answer_sets.specs.Naming.{head_number}
 use Rattle.book.specs.declared.breach.Breach.{Breach}
 use Rattle.book.specs.declared.summary.Summary.{Summary}
 
@@ -31,4 +30,5 @@ abbrev pub Breaches : Meaning → ℕ → ℕ → List Rule → List Breach → 
 Breaches m M k [] items = items ≡ []
 Breaches m M k (r ∷ rules) items =
     (Keeps m M r × Breaches m M (k + 1) rules items)
-    ⊎ ((Keeps m M r → ⊥) × ((rest : List Breach) × (items ≡ record { rule = k; head = head_number r.head } ∷ rest) × Breaches m M (k + 1) rules rest))
+    ⊎ ((Keeps m M r → ⊥)
+    × ((found : Breach) × (rest : List Breach) × (items ≡ found ∷ rest) × (found.rule ≡ k) × (head_of found.head ≡ r.head) × Breaches m M (k + 1) rules rest))

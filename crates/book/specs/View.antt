@@ -14,7 +14,7 @@ use Rattle.book.specs.declared.page.Page.{Page}
 
 -- a page: its copy of the rules is the first of the book's
 abbrev pub page_of : List meant.Rule → Page → plain.Page
-page_of rules p = record { way = way_of p.way; «set» = p.«set»; ranks = p.ranks; rules = take p.rules rules }
+page_of rules p = record { way = way_of p.way; «set» = p.«set»; ranks = p.ranks.bytes; rules = take p.rules rules }
 
 abbrev pub account_of : List Rule → List Page → Account
 account_of rules pages = record { rules = rules_of rules; pages = map (page_of (rules_of rules)) pages }

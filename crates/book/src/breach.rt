@@ -1,6 +1,8 @@
-// A rule that a set breaks: its number, and the number of its head, 255 for none.
-#[derive(Clone, Copy)]
+use rules::head::Head;
+
+// A rule that a set breaks: its number, and its head.
+#[derive(Clone, Copy, Debug, PartialEq, Eq)]
 pub struct Breach {
     pub rule: usize,
-    pub head: u8,
+    pub head: Head,
 }

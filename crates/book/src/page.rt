@@ -1,5 +1,4 @@
-ghost use Rattle.std.specs.Prelude.{◌≡◌, length};
-
+use judge::ranks::Ranks;
 use rules::way::Way;
 use sets::set::Set;
 
@@ -8,7 +7,6 @@ use sets::set::Set;
 pub struct Page {
     pub way: Way,
     pub set: Set,
-    pub ranks: [u8; 64],
+    pub ranks: Ranks,
     pub rules: usize,
-    ghost places: { length ranks ≡ 64 },
 }

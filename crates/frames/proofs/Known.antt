@@ -1,7 +1,8 @@
 -- Frames are known by their bytes.
 use Rattle.std.proofs.Common.{◌≡◌, ℕ, ◌/◌, ◌%◌, List, ◌++◌, get_or, drop, sym, refl, ap, ◌∙◌, arith}
 use Rattle.answer_sets.specs.Rules.{Way, reduct, complement}
-use Rattle.frames.specs.Bytes.{in_eight, way_byte}
+use Rattle.frames.specs.Bytes.{in_eight}
+use Rattle.rules.specs.Bytes.{way_byte}
 use Rattle.frames.specs.Frames.{Frame, a_header, a_rule, a_page, a_trailer, spelled}
 
 pub two_same : (m n : ℕ) → m / 256 ≡ n / 256 → m % 256 ≡ n % 256 → m ≡ n

@@ -2,7 +2,8 @@
 use Rattle.std.specs.Prelude.{◌≡◌, ℕ, ◌/◌, ◌%◌, List, [], ◌∷◌, ◌++◌, length}
 use Rattle.sets.specs.Sets.{size}
 use Rattle.answer_sets.specs.Rules.{Way}
-use Rattle.frames.specs.Bytes.{in_two, in_eight, way_byte}
+use Rattle.frames.specs.Bytes.{in_two, in_eight}
+use Rattle.rules.specs.Bytes.{way_byte}
 
 -- the count of a bank; a rule by the number of its head and the bytes of its entries; a page by its way, its set and the
 -- ranks of the set's decisions; how many rules and pages there are

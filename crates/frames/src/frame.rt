@@ -1,7 +1,7 @@
 use rules::way::Way;
 
 // What a line of a book's text stands for. Entries are two bytes each; a rank is a byte.
-#[derive(Clone, Copy)]
+#[derive(Clone, Copy, Debug, PartialEq, Eq)]
 pub enum Frame<'a> {
     // first, once: how many conditions the bank has
     Header { count: u16 },

@@ -1,7 +1,6 @@
 -- Where a line begins a text, and where none does.
-use Rattle.std.proofs.Common.{◌≡◌, ℕ, suc, ◌+◌, ◌*◌, ◌/◌, ◌%◌, ◌<◌, ◌≤◌, Bool, cond, ltb, ◌⊎◌, List, [], ◌∷◌, ◌++◌, length, get_or, drop, Some, None, sym, refl, ap, ◌∙◌, subst, inl, inr, append_assoc, add-zero, arith, length-drop}
+use Rattle.std.proofs.Common.{◌≡◌, ℕ, suc, ◌+◌, ◌*◌, ◌/◌, ◌%◌, ◌<◌, ◌≤◌, ◌⊎◌, List, [], ◌∷◌, ◌++◌, length, get_or, drop, Some, None, sym, refl, ap, ◌∙◌, subst, inl, inr, append_assoc, add-zero, arith, length-drop}
 use Rattle.std.proofs.lemmas.List.{length-append, drop-drop, drop_more, get_or-drop}
-use Rattle.std.proofs.lemmas.Bool.{cond-true, lt-ltb}
 use Rattle.hexlines.specs.Hex.{digit, hex, line, Bytes, Pair, Front, Begins}
 use Rattle.hexlines.proofs.Hexes.{hex_append, hex_nil, hex_cons, length_hex, digit_not_feed, byte_same, bytes_append}
 
@@ -46,10 +45,6 @@ no_line text ds q e stops no-feed bs rest h =
       | inl x ↦ let few = h.few in let less = x.0 in stops (omega arith) x.1.0 x.1.1 x.1.2 x.1.3
       | inr y ↦ let some = h.some in let same = y.0 in no-feed (omega arith) (omega (arith, ap length y.1)) (ap (λ l. get_or l 0 0) y.1)
     ]
-
--- a byte put into a line that is not full
-pub pushed : (bytes after : List ℕ) (b : ℕ) (r : Bool) → length bytes < 74 → r ≡ ltb (length bytes) 74 → after ≡ cond r (bytes ++ b ∷ []) bytes → after ≡ bytes ++ b ∷ []
-pushed bytes after b r l t e = e ∙ cond-true r (bytes ++ b ∷ []) bytes (t ∙ lt-ltb (length bytes) 74 l)
 
 pub front_within : (text bytes : List ℕ) → Front text bytes → 2 * length bytes ≤ length text
 front_within text bytes f = omega (arith, ap length f.spells, length-append (hex bytes) (drop (2 * length bytes) text), length_hex bytes)

@@ -1,4 +1,4 @@
-ghost use Rattle.std.specs.Prelude.{◌≡◌, ◌/◌, ◌%◌, ◌<◌, ◌≤◌, [], ◌∷◌, length, drop};
+ghost use Rattle.std.specs.Prelude.{◌≡◌, ◌/◌, ◌%◌, ◌<◌, [], ◌∷◌, drop, Some, None, MatchOption};
 ghost use Rattle.hexlines.specs.Hex.{digit, Nibble, Pair};
 
 // The digit of a number below sixteen.
@@ -27,15 +27,12 @@ fn value_of(c: u8) -> Option<u8>
     }
 }
 
-// The byte whose digits stand at a place, if some do.
-pub(crate) fn byte_at(text: &[u8], at: usize) -> Option<u8>
-    requires { at ≤ length text.now }
-    ensures { Pair (drop at text.now) result }
+// The byte whose digits begin a text, if some do, and the text after them.
+pub(crate) fn split_byte(text: &[u8]) -> Option<(u8, &[u8])>
+    ensures { MatchOption result (Pair text.now None) (λ p. Pair text.now (Some p.0) × (p.1.now ≡ drop 2 text.now)) }
 {
-    if text.len() - at < 2 {
+    let [high, low, rest @ ..] = text else {
         return None;
-    }
-    let high = value_of(text[at])?;
-    let low = value_of(text[at + 1])?;
-    Some(high * 16 + low)
+    };
+    Some((value_of(*high)? * 16 + value_of(*low)?, rest))
 }

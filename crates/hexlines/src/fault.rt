@@ -1,15 +1,17 @@
+use refusals::refusal::Refusal;
+
 // The layer at which a text is refused: its digits and lines, its frames, or the book that they make.
-#[derive(Clone, Copy)]
+#[derive(Clone, Copy, Debug, PartialEq, Eq)]
 pub enum Layer {
     Text,
     Frame,
     Book,
 }
 
-// Why a text is refused: at which line, counted from 1, at which layer, and by which number.
-#[derive(Clone, Copy)]
+// Why a text is refused: at which line, counted from 1, at which layer, and by which refusal.
+#[derive(Clone, Copy, Debug, PartialEq, Eq)]
 pub struct Fault {
     pub line: usize,
     pub layer: Layer,
-    pub number: u8,
+    pub refusal: Refusal,
 }

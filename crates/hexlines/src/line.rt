@@ -3,9 +3,11 @@ ghost use Rattle.rows.specs.Rows.{held};
 ghost use Rattle.hexlines.specs.Hex.{Front, Pair, Begins, Feed};
 ghost use Rattle.hexlines.specs.declared.fault.Fault.{Fault};
 ghost use Rattle.hexlines.specs.declared.fault.Layer.TheVariants.{Text};
+ghost use Rattle.refusals.specs.declared.refusal.Refusal.TheVariants.{BadLine};
 
-use crate::digits::byte_at;
+use crate::digits::split_byte;
 use crate::fault::{Fault, Layer};
+use refusals::refusal::Refusal;
 use rows::row::Row;
 
 // The most bytes of a line.
@@ -20,11 +22,13 @@ fn front(text: &[u8]) -> Line
     ensures stops { length (held result) < 74 → Pair (drop (2 * length (held result)) text.now) None }
 {
     let mut line = Row::new(0);
-    for n in 0..MAX_BYTES {
-        let Some(b) = byte_at(text, 2 * n) else {
+    let mut rest = text;
+    for _ in 0..MAX_BYTES {
+        let Some((b, more)) = split_byte(rest) else {
             return line;
         };
         let _ = line.push(b);
+        rest = more;
     }
     line
 }
@@ -40,7 +44,7 @@ fn ends_at(text: &[u8], at: usize) -> bool
 pub fn take_line(text: &[u8], number: usize) -> Result<Line, Fault>
     ensures { MatchResult result
         (λ l. Begins text.now (held l) (drop (2 * length (held l) + 1) text.now))
-        (λ e. (e ≡ record { line = number; layer = Text; number = 18 }) × ((bytes rest : List ℕ) → Begins text.now bytes rest → ⊥)) }
+        (λ e. (e ≡ record { line = number; layer = Text; refusal = BadLine }) × ((bytes rest : List ℕ) → Begins text.now bytes rest → ⊥)) }
 {
     let line = front(text);
     let len = line.len();
@@ -48,7 +52,7 @@ pub fn take_line(text: &[u8], number: usize) -> Result<Line, Fault>
         return Err(Fault {
             line: number,
             layer: Layer::Text,
-            number: 18,
+            refusal: Refusal::BadLine,
         });
     }
     Ok(line)

@@ -2,41 +2,25 @@ use crate::digits::digits_of;
 use crate::fault::Layer;
 use crate::line::take_line;
 use std::process::Abort;
-use std::test::Fail;
 
 // The text is refused, as line 5.
-fn check_refused(rt: &impl Abort, text: &[u8]) -> Result<(), Fail> {
-    match take_line(text, 5) {
-        Err(fault) => {
-            assert_eq!(rt; fault.line, 5);
-            assert_eq!(rt; fault.number, 18);
-            match fault.layer {
-                Layer::Text => Ok(()),
-                _ => {
-                    assert!(rt; false);
-                    Ok(())
-                },
-            }
-        }
-        Ok(_) => {
-            assert!(rt; false);
-            Ok(())
-        },
-    }
+fn check_refused(rt: &impl Abort, text: &[u8]) {
+    let Err(fault) = take_line(text, 5) else {
+        assert!(rt; false);
+        return;
+    };
+    assert_eq!(rt; fault.line, 5);
+    assert_eq!(rt; fault.layer, Layer::Text);
+    assert_eq!(rt; fault.refusal.number(), 18);
 }
 
 // The text begins with a line of so many bytes.
-fn check_taken(rt: &impl Abort, text: &[u8], len: usize) -> Result<(), Fail> {
-    match take_line(text, 1) {
-        Ok(line) => {
-            assert_eq!(rt; line.len(), len);
-            Ok(())
-        },
-        Err(_) => {
-            assert!(rt; false);
-            Ok(())
-        },
-    }
+fn check_taken(rt: &impl Abort, text: &[u8], len: usize) {
+    let Ok(line) = take_line(text, 1) else {
+        assert!(rt; false);
+        return;
+    };
+    assert_eq!(rt; line.len(), len);
 }
 
 #[test]
@@ -47,24 +31,24 @@ fn digits_of_bytes(rt: HostRuntime) {
 }
 
 #[test]
-fn lines(rt: HostRuntime) -> Result<(), Fail> {
-    check_taken(&rt, b"00\n", 1)?;
-    check_taken(&rt, b"040201\nand more", 3)?;
+fn lines(rt: HostRuntime) {
+    check_taken(&rt, b"00\n", 1);
+    check_taken(&rt, b"040201\nand more", 3);
     let mut text = [b'7'; 151];
     text[148] = b'\n';
-    check_taken(&rt, &text, 74)
+    check_taken(&rt, &text, 74);
 }
 
 #[test]
-fn no_lines(rt: HostRuntime) -> Result<(), Fail> {
-    check_refused(&rt, b"")?;
-    check_refused(&rt, b"\n")?;
-    check_refused(&rt, b"0102")?;
-    check_refused(&rt, b"012\n")?;
-    check_refused(&rt, b"01 02\n")?;
-    check_refused(&rt, b"0A\n")?;
-    check_refused(&rt, b"01\r\n")?;
+fn no_lines(rt: HostRuntime) {
+    check_refused(&rt, b"");
+    check_refused(&rt, b"\n");
+    check_refused(&rt, b"0102");
+    check_refused(&rt, b"012\n");
+    check_refused(&rt, b"01 02\n");
+    check_refused(&rt, b"0A\n");
+    check_refused(&rt, b"01\r\n");
     let mut text = [b'7'; 151];
     text[150] = b'\n';
-    check_refused(&rt, &text)
+    check_refused(&rt, &text);
 }

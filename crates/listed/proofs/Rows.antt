@@ -1,98 +1,144 @@
--- A row of sets and the walk through a span, side by side.
-use Rattle.std.proofs.Common.{◌≡◌, ℕ, ◌+◌, ◌^◌, ◌<◌, ◌≤◌, true, false, List, [], ◌∷◌, length, get_or, Decides, sym, refl, ap, ◌∙◌, subst, ⊎_elim, arith}
-use Rattle.std.proofs.lemmas.Bool.{both_ways, cases_Bool, cases_lt, cases_order}
+-- A row of sets: its part near a span, and which sets of the span stand in it.
+use Rattle.std.proofs.Common.{◌≡◌, ℕ, ◌+◌, ◌-◌, ◌^◌, ◌<◌, ◌≤◌, Bool, true, false, not, ◌&&◌, eqb, List, [], ◌∷◌, length, get_or, take, drop, filter, Decides, Some, None, Option, MatchOption, sym, refl, ap, ◌∙◌, subst, ap₂, ⊎_elim, zero-le, arith}
+use Rattle.std.proofs.lemmas.Bool.{both_ways, cases_Bool, cases_lt, cases_order, and_parts, and_from, eq-eqb, eqb-true}
+use Rattle.std.proofs.lemmas.List.Sorted.{IsNonDecreasingBy-from_default}
+use Rattle.std.proofs.lemmas.List.{get_or-drop, get_or-take, length-drop, length-take-le}
+use Rattle.std.specs.List.Sorted.{IsNonDecreasingBy}
+use Rattle.std.specs.Bool.{MatchBool}
+use Rattle.std.specs.Iterator.{AlwaysYields, YieldsThen, ComparesItemsByEq}
+use Rattle.std.specs.List.{AllWithin, HoldsAt, AllZip}
+use Rattle.std.specs.Option.{IfSome}
+use Rattle.std.proofs.lemmas.Iterator.{YieldsList}
 use Rattle.sets.specs.Lists.{member, Ascends}
-use Rattle.sets.specs.Sets.{◌⊆◌, Between}
-use Rattle.sets.specs.Walks.{sets_from, Next}
-use Rattle.sets.proofs.Ascending.{member_place, member_at, ascends_apart}
-use Rattle.sets.proofs.Listing.{last_of_list}
+use Rattle.sets.specs.Sets.{◌⊆◌, Between, inside}
+use Rattle.sets.specs.Walks.{sets_between}
+use Rattle.sets.proofs.Ascending.{member_place, member_at, member_kept, member_of_kept, ascends_apart, sorted_of, sorted_kept, sorted_ext}
+use Rattle.sets.proofs.Listing.{between_listed}
+use Rattle.sets.proofs.Members.{same_test, decides_sub}
 use Rattle.listed.specs.Tables.{AllIn, NoneIn}
 
-pub not_member : (f : ℕ) (row : List ℕ) → ((i : ℕ) → i < length row → get_or row i 0 ≡ f → ⊥) → member f row ≡ false
-not_member f row h =
-    ⊎_elim (λ e. let p = member_place f row e in absurd (h p.0 p.1 p.2)) (λ e. e) (cases_Bool (member f row))
+-- ---- the part near a span
 
--- ---- none of the span stands in the row
+-- what a binary search asks of a row
+pub rises : (row : List ℕ) → Ascends row → IsNonDecreasingBy (λ x. x) row
+rises row asc = IsNonDecreasingBy-from_default (λ x. x) row 0 (λ i j l k.
+    ⊎_elim (λ (e : i ≡ j). let q = ap (λ (n : ℕ). get_or row n 0) e in omega arith)
+    (λ d. ⊎_elim (λ (m : i < j). let q = ascends_apart row asc i j m k in omega arith) (λ m. absurd (omega arith)) d)
+    (cases_order i j))
 
-pub some_stands : (row : List ℕ) (lo up i : ℕ) → i < length row → Between lo up (get_or row i 0) → Decides false (NoneIn row lo up)
-some_stands row lo up i l b =
-    ((λ e. absurd (both_ways false refl e)), (λ n. absurd (both_ways (member (get_or row i 0) row) (n (get_or row i 0) b) (member_at row i l))))
+-- what stands at a place is a member
+member_is : (f : ℕ) (row : List ℕ) (i : ℕ) → i < length row → get_or row i 0 ≡ f → member f row ≡ true
+member_is f row i l e = subst (λ (x : ℕ). member x row ≡ true) e (member_at row i l)
 
-pub none_stands : (row : List ℕ) (lo up : ℕ) → ((i : ℕ) → i < length row → Between lo up (get_or row i 0) → ⊥) → Decides true (NoneIn row lo up)
-none_stands row lo up h =
-    ((λ _ f b. not_member f row (λ i l e. h i l (subst (Between lo up) (sym e) b))), (λ _. refl))
+-- a set above all that stands before place i is not lost with it
+pub member_drop : (row : List ℕ) (i f : ℕ) → ((j : ℕ) → j < i → get_or row j 0 < f) → member f (drop i row) ≡ member f row
+member_drop row i f below = same_test (member f (drop i row)) (member f row)
+    (λ m. let p = member_place f (drop i row) m in
+    member_is f row (i + p.0) (omega (arith, p.1, length-drop i row)) (sym (get_or-drop i row p.0 0) ∙ p.2))
+    (λ m. let p = member_place f row m in ⊎_elim
+    (λ (l : p.0 < i). let b = below p.0 l in let e = p.2 in absurd (omega arith))
+    (λ l. member_is f (drop i row) (p.0 - i) (omega (arith, p.1, length-drop i row))
+    (get_or-drop i row (p.0 - i) 0 ∙ ap (λ (n : ℕ). get_or row n 0) (omega arith) ∙ p.2))
+    (cases_lt p.0 i))
 
--- ---- all of the span stands in the row
+-- and one below all that stands from place i on
+pub member_take : (row : List ℕ) (i f : ℕ) → i ≤ length row → ((j : ℕ) → i ≤ j → j < length row → f < get_or row j 0) → member f (take i row) ≡ member f row
+member_take row i f h above = same_test (member f (take i row)) (member f row)
+    (λ m. let p = member_place f (take i row) m in
+    let l : p.0 < i = omega (arith, p.1, length-take-le i row h) in
+    member_is f row p.0 (omega arith) (sym (get_or-take i row p.0 0 l) ∙ p.2))
+    (λ m. let p = member_place f row m in ⊎_elim
+    (λ (l : p.0 < i). member_is f (take i row) p.0 (omega (arith, length-take-le i row h)) (get_or-take i row p.0 0 l ∙ p.2))
+    (λ l. let a = above p.0 l p.1 in let e = p.2 in absurd (omega arith))
+    (cases_lt p.0 i))
 
--- the sets of the span below `at` stand in the row before place i
-abbrev pub Behind : List ℕ → ℕ → ℕ → ℕ → ℕ → Type 0
-Behind row lo up i at = (f : ℕ) → Between lo up f → f < at → (j : ℕ) × (j < i) × (get_or row j 0 ≡ f)
+-- whether a set is in a span, as a test
+abbrev pub within : ℕ → ℕ → ℕ → Bool
+within lo up s = inside lo s && inside s up
 
--- what stands in the row before place i and is in the span lies below `at`
-abbrev pub Ahead : List ℕ → ℕ → ℕ → ℕ → ℕ → Type 0
-Ahead row lo up i at = (j : ℕ) → j < i → Between lo up (get_or row j 0) → get_or row j 0 < at
+within_between : (lo up s : ℕ) → within lo up s ≡ true → Between lo up s
+within_between lo up s e = let p = and_parts (inside lo s) (inside s up) e in ((decides_sub lo s).0 p.0, (decides_sub s up).0 p.1)
 
-missing : (row : List ℕ) (lo up at : ℕ) → Between lo up at → (member at row ≡ true → ⊥) → Decides false (AllIn row lo up)
-missing row lo up at b n = ((λ e. absurd (both_ways false refl e)), (λ a. absurd (n (a at b))))
+between_within : (lo up s : ℕ) → Between lo up s → within lo up s ≡ true
+between_within lo up s b = and_from (inside lo s) (inside s up) ((decides_sub lo s).1 b.0) ((decides_sub s up).1 b.1)
 
-module _ (row : List ℕ) (lo up i at : ℕ) (inside : Between lo up at) (behind : Behind row lo up i at) (ahead : Ahead row lo up i at) where
-  -- the row ends before `at` comes
-  pub ends_early : length row ≤ i → Decides false (AllIn row lo up)
-  ends_early l = missing row lo up at inside (λ m.
-      let p = member_place at row m in
-      let e = p.2 in let k = p.1 in
-      let q : get_or row p.0 0 < at = ahead p.0 (omega arith) (subst (Between lo up) (sym e) inside) in omega arith)
+pub within_is : (lo up : ℕ) (b : Bool) (s : ℕ) → Decides b (Between lo up s) → b ≡ within lo up s
+within_is lo up b s d = same_test b (within lo up s) (λ e. between_within lo up s (d.0 e)) (λ e. d.1 (within_between lo up s e))
 
-  -- a set that is not in the span changes nothing
-  pub behind_other : Behind row lo up (i + 1) at
-  behind_other f b l = let p = behind f b l in (p.0, omega (arith, p.1), p.2)
+-- ---- which sets of the span stand in the row, from its part near the span
 
-  pub ahead_other : (Between lo up (get_or row i 0) → ⊥) → Ahead row lo up (i + 1) at
-  ahead_other n j l b =
-      ⊎_elim (λ (e : j ≡ i). absurd (n (subst (λ (x : ℕ). Between lo up (get_or row x 0)) e b)))
-      (λ d. ⊎_elim (λ (k : j < i). ahead j k b) (λ k. absurd (omega arith)) d) (cases_order j i)
+module _ (row near : List ℕ) (lo up : ℕ) (same : (f : ℕ) → Between lo up f → member f near ≡ member f row) where
+  pub none_stands : (b : Bool) → MatchBool b ((k : ℕ) × (k < length near) × HoldsAt (Between lo up) near k) (AllWithin (λ s. Between lo up s → ⊥) near 0 (length near))
+      → Decides (not b) (NoneIn row lo up)
+  none_stands true h =
+      let there : member (get_or near h.0 0) row ≡ true = sym (same (get_or near h.0 0) (h.2 0)) ∙ member_at near h.0 h.1 in
+      ((λ e. absurd (both_ways false refl e)), (λ n. absurd (both_ways (member (get_or near h.0 0) row) (n (get_or near h.0 0) (h.2 0)) there)))
+  none_stands false h = (
+    (λ _ f b. ⊎_elim
+        (λ e. let p = member_place f near (same f b ∙ e) in absurd (h p.0 0 zero-le p.1 (subst (Between lo up) (sym p.2) b)))
+        (λ e. e) (cases_Bool (member f row))),
+    (λ _. refl),
+  )
 
-  -- a set of the span that is not `at` has passed it
-  pub passed : Ascends row → i < length row → Between lo up (get_or row i 0) → (get_or row i 0 ≡ at → ⊥) → Decides false (AllIn row lo up)
-  passed asc l b ne = missing row lo up at inside (λ m.
-      let p = member_place at row m in
-      let e = p.2 in
-      let above : at < get_or row i 0 = ⊎_elim
-      (λ (k : get_or row i 0 < at).
-      let q = behind (get_or row i 0) b k in
-      let r : get_or row q.0 0 < get_or row i 0 = ascends_apart row asc q.0 i q.1 l in
-      let s = q.2 in absurd (omega arith))
-      (λ k. ⊎_elim (λ (same : get_or row i 0 ≡ at). absurd (ne same)) (λ d. ⊎_elim (λ (k' : get_or row i 0 < at). absurd (omega arith)) (λ k'. k') d) (cases_order (get_or row i 0) at))
-      (cases_lt (get_or row i 0) at) in
-      ⊎_elim
-      (λ (same : p.0 ≡ i). let x : get_or row p.0 0 ≡ get_or row i 0 = ap (λ (j : ℕ). get_or row j 0) same in omega arith)
-      (λ d. ⊎_elim
-      (λ (k : p.0 < i). let q = ahead p.0 k (subst (Between lo up) (sym e) inside) in omega arith)
-      (λ (k : i < p.0). let q = ascends_apart row asc i p.0 k p.1 in omega arith) d)
-      (cases_order p.0 i))
+  -- all of them stand there where those of the near part are all of the span's
+  pub all_stand : lo ⊆ up → up < 2 ^ 64 → Ascends near → (b : Bool) → Decides b (filter (within lo up) near ≡ sets_between lo up) → Decides b (AllIn row lo up)
+  all_stand nested fits asc b d = (
+    (λ e f i. sym (same f i) ∙ (member_of_kept (within lo up) f near
+        (subst (λ (ys : List ℕ). member f ys ≡ true) (sym (d.0 e)) ((between_listed.exactly lo up f nested fits).1 i))).0),
+    (λ a. d.1 (sorted_ext (filter (within lo up) near) (sets_between lo up)
+        (sorted_kept (within lo up) near (sorted_of near asc)) (sorted_of (sets_between lo up) (between_listed.ascending lo up))
+        (λ z m. (between_listed.exactly lo up z nested fits).1 (within_between lo up z (member_of_kept (within lo up) z near m).1))
+        (λ z m. let i = (between_listed.exactly lo up z nested fits).0 m in
+        member_kept (within lo up) z near (same z i ∙ a z i) (between_within lo up z i)))),
+  )
 
-  module _ (l : i < length row) (same : get_or row i 0 ≡ at) (nested : lo ⊆ up) (fits : up < 2 ^ 64) where
-    -- it is `at`, and the walk ends there
-    pub complete : sets_from at lo up ≡ at ∷ [] → Decides true (AllIn row lo up)
-    complete last = (
-      (λ _ f b. ⊎_elim
-          (λ (k : f < at). let p = behind f b k in let q = p.1 in
-          subst (λ (x : ℕ). member x row ≡ true) p.2 (member_at row p.0 (omega arith)))
-          (λ k. subst (λ (x : ℕ). member x row ≡ true) (same ∙ sym (last_of_list lo up at nested fits inside last f b k)) (member_at row i l))
-          (cases_lt f at)),
-      (λ _. refl),
-    )
+-- ---- `eq` of two iterators of numbers: whether they give the same list
 
-    -- it is `at`, and the walk goes on
-    module _ (x : ℕ) (next : Next lo up at x) where
-      pub behind_next : Behind row lo up (i + 1) x
-      behind_next f b k = ⊎_elim
-          (λ (e : f ≡ at). (i, omega arith, same ∙ sym e))
-          (λ d. ⊎_elim (λ (q : f < at). behind_other f b q) (λ (q : at < f). let r = next.1 f b q in absurd (omega arith)) d)
-          (cases_order f at)
+module _ {S T : Type 0} (steps : S → Option ℕ → S → Type 0) (others : T → Option ℕ → T → Type 0) (r : Bool) where
+  abbrev Last : Option ℕ → Option ℕ → Type 0
+  Last o p = MatchOption o (MatchOption p (r ≡ true) (λ _. r ≡ false)) (λ x. (r ≡ false) × IfSome p (λ y. eqb x y ≡ false))
 
-      pub ahead_next : Ahead row lo up (i + 1) x
-      ahead_next j k b = let n = next.0 in ⊎_elim
-          (λ (e : j ≡ i). let q : get_or row j 0 ≡ at = ap (λ (y : ℕ). get_or row y 0) e ∙ same in omega arith)
-          (λ d. ⊎_elim (λ (q : j < i). let r = ahead j q b in omega arith) (λ q. absurd (omega arith)) d)
-          (cases_order j i)
+  decides_not : {P : Type 0} → r ≡ false → (P → ⊥) → Decides r P
+  decides_not h n = ((λ e. absurd (both_ways r h e)), (λ q. absurd (n q)))
+
+  at_last : (o p : Option ℕ) (xs ys : List ℕ) (s u : S) (t w : T) → AlwaysYields steps (λ x. x) s xs → AlwaysYields others (λ y. y) t ys
+      → steps s o u → others t p w → Last o p → Decides r (xs ≡ ys)
+  at_last None None (x ∷ xs) ys s u t w e f a b h = absurd (e.0 u a)
+  at_last None (Some y) (x ∷ xs) ys s u t w e f a b h = absurd (e.0 u a)
+  at_last (Some x) None [] ys s u t w e f a b h = absurd (e x u a)
+  at_last (Some x) (Some y) [] ys s u t w e f a b h = absurd (e x u a)
+  at_last None None [] (y ∷ ys) s u t w e f a b h = absurd (f.0 w b)
+  at_last None (Some y) [] [] s u t w e f a b h = absurd (f y w b)
+  at_last (Some x) None (z ∷ xs) (y ∷ ys) s u t w e f a b h = absurd (f.0 w b)
+  at_last (Some x) (Some y) (z ∷ xs) [] s u t w e f a b h = absurd (f y w b)
+  at_last None None [] [] s u t w e f a b h = ((λ _. refl), (λ _. h))
+  at_last None (Some y) [] (z ∷ ys) s u t w e f a b h = decides_not h (λ q. cc)
+  at_last (Some x) None (z ∷ xs) [] s u t w e f a b h = decides_not h.0 (λ q. cc)
+  at_last (Some x) (Some y) (x' ∷ xs) (y' ∷ ys) s u t w e f a b h = decides_not h.0 (λ q.
+      let same : x ≡ y = (e.1 x u a).0 ∙ head_is q ∙ sym (f.1 y w b).0 in both_ways (eqb x y) h.1 (eq-eqb x y same))
+    where
+      head_is : x' ∷ xs ≡ y' ∷ ys → x' ≡ y'
+      head_is q = cc
+
+  along : (cs bs : List ℕ) (o p : Option ℕ) (xs ys : List ℕ) (s u : S) (t w : T) → AlwaysYields steps (λ x. x) s xs → AlwaysYields others (λ y. y) t ys
+      → YieldsThen steps s cs o u → YieldsThen others t bs p w → AllZip (λ x y. eqb x y ≡ true) cs bs → Last o p → Decides r (xs ≡ ys)
+  along [] [] o p xs ys s u t w e f a b z h = at_last o p xs ys s u t w e f (subst (λ j. steps j o u) (sym a.1) a.2) (subst (λ j. others j p w) (sym b.1) b.2) h
+  along [] (y ∷ bs) o p xs ys s u t w e f a b z h = absurd z
+  along (x ∷ cs) [] o p xs ys s u t w e f a b z h = absurd z
+  along (x ∷ cs) (y ∷ bs) o p [] ys s u t w e f a b z h = absurd (e x a.1.0 a.1.1)
+  along (x ∷ cs) (y ∷ bs) o p (x' ∷ xs) [] s u t w e f a b z h = absurd (f y b.1.0 b.1.1)
+  along (x ∷ cs) (y ∷ bs) o p (x' ∷ xs) (y' ∷ ys) s u t w e f a b z h =
+      let m = e.1 x a.1.0 a.1.1 in
+      let n = f.1 y b.1.0 b.1.1 in
+      let tie : x' ≡ y' = sym m.0 ∙ eqb-true x y z.0 ∙ n.0 in
+      let d = along cs bs o p xs ys a.1.0 u b.1.0 w m.1 n.1 (a.0, a.1.2, a.2) (b.0, b.1.2, b.2) z.1 h in
+      ((λ i. ap₂ (λ (k : ℕ) (ks : List ℕ). k ∷ ks) tie (d.0 i)), (λ q. d.1 (tail_is q)))
+    where
+      tail_is : x' ∷ xs ≡ y' ∷ ys → xs ≡ ys
+      tail_is q = cc
+
+pub decides_from_eq : {S U T : Type 0} {steps : S → Option ℕ → S → Type 0} {others : T → Option ℕ → T → Type 0} {s : S} {xs ys : List ℕ}
+    (becomes : U → T → Type 0) (other : U) (r : Bool) → ComparesItemsByEq steps becomes others s other eqb r
+    → YieldsList steps (λ x. x) s xs → ((it : T) → becomes other it → YieldsList others (λ y. y) it ys) → Decides r (xs ≡ ys)
+decides_from_eq {steps = steps} {others = others} {s = s} {xs = xs} {ys = ys} becomes other r d e f =
+    along steps others r d.1 d.2 d.3 d.4 xs ys s d.5 d.0 d.6 e.runs (f d.0 d.7).runs d.8 d.9 d.10 d.11

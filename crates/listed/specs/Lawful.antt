@@ -3,11 +3,12 @@ use Rattle.std.specs.Prelude.{◌≡◌, ℕ, true, List}
 use Rattle.std.proofs.Common.{ap, subst, arith}
 use Rattle.std.proofs.lemmas.List.{get_or_past}
 use Rattle.banks.specs.Meaning.{Lawful}
+use Rattle.banks.specs.Tables.{Few}
 use Rattle.sets.specs.Lists.{member}
 use Rattle.sets.specs.Sets.{◌⊆◌}
 use Rattle.sets.proofs.Ascending.{member_place}
 use Rattle.sets.proofs.Members.{and_sub_of}
-use Rattle.listed.specs.Tables.{row, condition, no_condition, listed, Few, Narrow, Contained}
+use Rattle.listed.specs.Tables.{row, condition, no_condition, listed, Narrow, Contained}
 use Rattle.listed.specs.declared.condition.ListedCondition.{ListedCondition}
 
 contained_sets : (cs : List ListedCondition) (sets : List ℕ) → Contained cs sets → (k f : ℕ) → member f (row (condition cs k) sets) ≡ true → f ⊆ (condition cs k).domain

@@ -1,6 +1,7 @@
 -- Tables of listed conditions: when they are valid, and what they mean.
 use Rattle.std.specs.Prelude.{◌≡◌, ℕ, ◌+◌, ◌<◌, ◌≤◌, true, false, List, length, get_or, take, drop, slice_index, slice_index_or}
 use Rattle.banks.specs.Meaning.{Meaning}
+use Rattle.banks.specs.Tables.{Few}
 use Rattle.sets.specs.Lists.{member, Ascends}
 use Rattle.sets.specs.Sets.{◌⊆◌, ◌∩◌, size, Between}
 use Rattle.listed.specs.declared.condition.ListedCondition.{ListedCondition}
@@ -24,9 +25,13 @@ no_condition = record { domain = 0; first = 0; len = 0 }
 abbrev pub condition : List ListedCondition → ℕ → ListedCondition
 condition cs k = slice_index_or cs k no_condition
 
+-- each condition of a table is sound
+abbrev pub AllSound : List ListedCondition → List ℕ → Type 0
+AllSound cs sets = (k : ℕ) → k < length cs → Sound (condition cs k) sets
+
 -- valid tables: at most 256 conditions, each of them sound
 abbrev pub Valid : List ListedCondition → List ℕ → Type 0
-Valid cs sets = (length cs ≤ 256) × ((k : ℕ) → k < length cs → Sound (condition cs k) sets)
+Valid cs sets = Few cs × AllSound cs sets
 
 -- condition k has its domain from the table, and the sets of its row as its family
 abbrev pub listed : List ListedCondition → List ℕ → Meaning
@@ -36,10 +41,7 @@ listed cs sets = record {
   family = λ k f. member f (row (condition cs k) sets);
 }
 
--- the parts of validity, as the bank keeps them
-abbrev pub Few : List ListedCondition → Type 0
-Few cs = length cs ≤ 256
-
+-- the parts of validity, as the bank keeps them, beside `Few`
 abbrev pub Narrow : List ListedCondition → Type 0
 Narrow cs = (k : ℕ) → size (condition cs k).domain ≤ 12
 

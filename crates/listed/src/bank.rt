@@ -1,7 +1,8 @@
 ghost use Rattle.std.specs.Prelude.{◌≡◌, [], MatchResult};
 ghost use Rattle.banks.specs.Meaning.{no_conditions};
+ghost use Rattle.banks.specs.Tables.{Few};
 ghost use Rattle.refusals.specs.Numbers.{Says};
-ghost use Rattle.listed.specs.Tables.{Valid, Few, Narrow, Placed, Ordered, Contained, row, condition, listed};
+ghost use Rattle.listed.specs.Tables.{Valid, Narrow, Placed, Ordered, Contained, row, condition, listed};
 ghost use Rattle.listed.specs.Lawful.{listed_lawful};
 
 use crate::condition::ListedCondition;
@@ -11,6 +12,13 @@ use banks::bank::Bank;
 use refusals::refusal::Refusal;
 use sets::set::Set;
 use sets::span::Span;
+
+// What a number that the table does not have stands for.
+const NO_CONDITION: ListedCondition = ListedCondition {
+    domain: 0,
+    first: 0,
+    len: 0,
+};
 
 // A bank over tables that were found valid; they stay the caller's.
 #[derive(Clone, Copy)]
@@ -64,16 +72,10 @@ impl ListedBank<'_> {
     fn at(&self, k: u16) -> ListedCondition
         ensures { result ≡ condition self.now.conditions.now k }
     {
-        let k = k as usize;
-        if k < self.conditions.len() {
-            self.conditions[k]
-        } else {
-            ListedCondition {
-                domain: 0,
-                first: 0,
-                len: 0,
-            }
-        }
+        self.conditions
+            .get(k as usize)
+            .copied()
+            .unwrap_or(NO_CONDITION)
     }
 
     // The sets of condition k.
@@ -90,8 +92,6 @@ impl ListedBank<'_> {
 impl Bank for ListedBank<'_> {
     ghost meaning = { λ b. listed b.conditions.now b.sets.now };
 
-    ghost lawful = { λ b. listed_lawful b.conditions.now b.sets.now b.few b.narrow b.contained };
-
     fn count(&self) -> u16 {
         self.conditions.len() as u16
     }
@@ -107,4 +107,6 @@ impl Bank for ListedBank<'_> {
     fn never(&self, k: u16, span: Span) -> bool {
         holds_none(self.row_of(k), span.cut(self.domain(k)))
     }
+
+    ghost lawful = { λ b. listed_lawful b.conditions.now b.sets.now b.few b.narrow b.contained };
 }

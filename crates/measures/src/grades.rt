@@ -35,6 +35,6 @@ impl Measure for Grade {
     }
 
     fn not_above(self, other: Grade) -> bool {
-        self.value <= other.value
+        self <= other
     }
 }

@@ -1,5 +1,5 @@
 // A figure in kilos: a weight, a total or a bound.
-#[derive(Clone, Copy)]
+#[derive(Clone, Copy, PartialEq, Eq, PartialOrd, Ord, Debug)]
 pub struct Kilo {
     pub value: i32,
 }

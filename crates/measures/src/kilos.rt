@@ -4,6 +4,9 @@ ghost use Rattle.measures.specs.KiloLaws.{kilo_laws};
 use crate::kilo::Kilo;
 use crate::measure::Measure;
 
+// The most that a weight is above or below 0.
+const MAX_WEIGHT: i32 = 1_000_000;
+
 // Sums that stop at the ends of 32 bits.
 impl Measure for Kilo {
     type Raw = i32;
@@ -13,7 +16,7 @@ impl Measure for Kilo {
     ghost lawful = { kilo_laws };
 
     fn is_weight(w: i32) -> bool {
-        -1_000_000 <= w && w <= 1_000_000
+        (-MAX_WEIGHT..=MAX_WEIGHT).contains(&w)
     }
 
     fn is_bound(b: i32) -> bool {
@@ -35,6 +38,6 @@ impl Measure for Kilo {
     }
 
     fn not_above(self, other: Kilo) -> bool {
-        self.value <= other.value
+        self <= other
     }
 }

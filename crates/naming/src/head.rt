@@ -1,23 +1,25 @@
-ghost use Rattle.std.specs.Prelude.{◌≡◌, MatchOption};
+ghost use Rattle.std.specs.Prelude.{◌≡◌, [], MatchResult};
 ghost use Rattle.rules.specs.Shapes.{head_of};
+ghost use Rattle.refusals.specs.Numbers.{Says};
 ghost use Rattle.answer_sets.specs.Naming.{NamesHead, head_named, head_number};
 
+use refusals::refusal::Refusal;
 use rules::head::Head;
 use sets::decision::Decision;
 
 // The number by which no head is named.
 const NO_HEAD: u8 = 255;
 
-// The head that a number names, if it names one.
-pub fn head_named(number: u8) -> Option<Head>
-    ensures { MatchOption result (NamesHead number → ⊥) (λ h. NamesHead number × (head_of h ≡ head_named number)) }
+// The head that a number names, if it names one. A head is an option of a decision, so the conversion can be no TryFrom.
+pub fn head_named(number: u8) -> Result<Head, Refusal>
+    ensures { MatchResult result (λ h. NamesHead number × (head_of h ≡ head_named number)) (λ e. Says e 11 [] × (NamesHead number → ⊥)) }
 {
     if number == NO_HEAD {
-        return Some(Head::Absent);
+        return Ok(None);
     }
     match Decision::new(number) {
-        Some(d) => Some(Head::Takes(d)),
-        None => None,
+        None => Err(Refusal::BadHead),
+        head => Ok(head),
     }
 }
 
@@ -26,7 +28,7 @@ pub fn head_number(head: Head) -> u8
     ensures { result ≡ head_number (head_of head) }
 {
     match head {
-        Head::Takes(d) => d.place(),
-        Head::Absent => NO_HEAD,
+        Some(d) => d.place(),
+        None => NO_HEAD,
     }
 }

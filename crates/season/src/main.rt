@@ -7,20 +7,20 @@ use banks::standing::Standing;
 use banks::verdict::standing_of;
 use house::bank::{House, house_bank};
 use judge::keeping::lowest_broken;
-use judge::ranking::rank_set;
+use judge::program::Program;
 use listed::bank::ListedBank;
 use listed::condition::ListedCondition;
 use measures::kilo::Kilo;
 use refusals::refusal::Refusal;
 use rules::entry::Entry;
-use rules::head::Head;
 use rules::rule::Rule;
 use rules::way::Way;
 use sets::decision::Decision;
-use sets::decisions::Decisions;
 use sets::set::Set;
 use sets::span::Span;
-use std::{fmt, io};
+use shown::braces::Braces;
+use shown::ranked::RankedSet;
+use std::io;
 use weighed::bank::WeighedBank;
 use weighed::condition::WeighedCondition;
 
@@ -42,44 +42,6 @@ const HEAVY: [WeighedCondition<i32>; 1] = [WeighedCondition {
 }];
 
 const HEAVY_WEIGHTS: [i32; 1] = [1_000_001];
-
-// A set as it is printed: its decisions in braces, lowest first.
-#[derive(Drop)]
-struct Braces(Set);
-
-impl fmt::Display for Braces {
-    fn fmt<W: fmt::Write>(&self, f: &mut fmt::Formatter<W>) -> fmt::Result {
-        write!(f, "{{")?;
-        let mut first = true;
-        for d in Decisions::of(self.0) {
-            if !first {
-                write!(f, ", ")?;
-            }
-            first = false;
-            let place = d.place();
-            write!(f, "{place}")?;
-        }
-        write!(f, "}}")
-    }
-}
-
-// The decisions of a set as they are printed with their ranks.
-#[derive(Drop)]
-struct Ranks {
-    set: Set,
-    ranks: [u8; 64],
-}
-
-impl fmt::Display for Ranks {
-    fn fmt<W: fmt::Write>(&self, f: &mut fmt::Formatter<W>) -> fmt::Result {
-        for d in Decisions::of(self.set) {
-            let place = d.place();
-            let rank = self.ranks[place as usize];
-            write!(f, " {place}:{rank}")?;
-        }
-        Ok(())
-    }
-}
 
 fn words(standing: Standing) -> &'static str {
     match standing {
@@ -106,30 +68,20 @@ fn report<B: Bank>(rt: &impl Print, bank: &B, decided: Set, possible: Set) -> io
 fn loaded(rt: &impl Print, what: &str, load: Result<(), Refusal>, count: u16) -> io::Result<()> {
     match load {
         Ok(()) => println!(rt; "{what}: taken, conditions: {count}"),
-        Err(refusal) => {
-            let number = refusal.number();
-            println!(rt; "{what}: refused {number}, conditions: {count}")
-        }
-    }
-}
-
-fn name(way: Way) -> &'static str {
-    match way {
-        Way::Reduct => "reduct",
-        Way::Complement => "complement",
+        Err(refusal) => println!(rt; "{what}: {refusal}, conditions: {count}"),
     }
 }
 
 // One line on a set under some rules: the lowest rule that it breaks, or its ranks, or that none bear it.
-fn judged(rt: &impl Print, bank: &House, way: Way, rules: &[Rule], set: Set) -> io::Result<()> {
-    let by = name(way);
+fn judged(rt: &impl Print, program: &Program<House>, set: Set) -> io::Result<()> {
+    let by = program.way;
     let shown = Braces(set);
-    if let Some(i) = lowest_broken(bank, rules, set) {
+    if let Some(i) = lowest_broken(program.bank, program.rules, set) {
         return println!(rt; "{shown} by {by}: breaks rule {i}");
     }
-    match rank_set(bank, way, rules, set) {
+    match program.rank_set(set) {
         Some(ranks) => {
-            let list = Ranks { set, ranks };
+            let list = RankedSet { set, ranks };
             println!(rt; "{shown} by {by}: ranks{list}")
         }
         None => println!(rt; "{shown} by {by}: no ranks bear it"),
@@ -138,13 +90,12 @@ fn judged(rt: &impl Print, bank: &House, way: Way, rules: &[Rule], set: Set) -> 
 
 // A rule with one entry that gives a decision, or none for a number that is no decision's.
 fn when(place: u8, condition: u16, negated: bool) -> Option<Rule> {
-    let d = Decision::new(place)?;
-    Rule::new(Head::Takes(d), &[Entry { condition, negated }])
+    Rule::new(Some(Decision::new(place)?), &[Entry { condition, negated }])
 }
 
 // A rule that gives a decision at once.
 fn given(place: u8) -> Option<Rule> {
-    Rule::new(Head::Takes(Decision::new(place)?), &[])
+    Rule::new(Some(Decision::new(place)?), &[])
 }
 
 // Decision 0 is given, and decision 1 follows from condition 0.
@@ -162,25 +113,55 @@ fn unlike() -> Option<[Rule; 1]> {
     Some([when(0, 2, true)?])
 }
 
-fn rulings(rt: &impl Print, bank: &House) -> io::Result<()> {
+// Some sets under rules that are read by one way.
+fn judged_all(rt: &impl Print, program: &Program<House>, sets: &[Set]) -> io::Result<()> {
+    for set in sets {
+        judged(rt, program, *set)?;
+    }
+    Ok(())
+}
+
+fn chain_judged(rt: &impl Print, bank: &House) -> io::Result<()> {
     let Some(rules) = chain() else {
         return Ok(());
     };
     println!(rt; "decision 0; decision 1 when condition 0")?;
-    judged(rt, bank, Way::Reduct, &rules, 0b11)?;
-    judged(rt, bank, Way::Reduct, &rules, 0b01)?;
+    let program = Program {
+        bank,
+        way: Way::Reduct,
+        rules: &rules,
+    };
+    judged_all(rt, &program, &[0b11, 0b01])
+}
+
+fn ring_judged(rt: &impl Print, bank: &House) -> io::Result<()> {
     let Some(rules) = ring() else {
         return Ok(());
     };
     println!(rt; "decision 0 when condition 1; decision 1 when condition 0")?;
-    judged(rt, bank, Way::Reduct, &rules, 0b11)?;
-    judged(rt, bank, Way::Reduct, &rules, 0b00)?;
+    let program = Program {
+        bank,
+        way: Way::Reduct,
+        rules: &rules,
+    };
+    judged_all(rt, &program, &[0b11, 0b00])
+}
+
+// By both ways.
+fn unlike_judged(rt: &impl Print, bank: &House) -> io::Result<()> {
     let Some(rules) = unlike() else {
         return Ok(());
     };
     println!(rt; "decision 0 when not condition 2")?;
-    judged(rt, bank, Way::Reduct, &rules, 0b01)?;
-    judged(rt, bank, Way::Complement, &rules, 0b01)
+    for way in [Way::Reduct, Way::Complement] {
+        let program = Program {
+            bank,
+            way,
+            rules: &rules,
+        };
+        judged(rt, &program, 0b01)?;
+    }
+    Ok(())
 }
 
 fn main(rt: HostRuntime) -> io::Result<()> {
@@ -194,5 +175,7 @@ fn main(rt: HostRuntime) -> io::Result<()> {
     let mut kilos = WeighedBank::<Kilo>::new();
     let load = kilos.load(&HEAVY, &HEAVY_WEIGHTS);
     loaded(&rt, "a weight of 1000001 kilos", load, kilos.count())?;
-    rulings(&rt, &house)
+    chain_judged(&rt, &house)?;
+    ring_judged(&rt, &house)?;
+    unlike_judged(&rt, &house)
 }

@@ -4,3 +4,4 @@ pub mod Successor
 pub mod Listing
 pub mod Collecting
 pub mod Seeking
+pub mod Chains

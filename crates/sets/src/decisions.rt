@@ -1,8 +1,8 @@
-ghost use Rattle.std.specs.Prelude.{◌≡◌, [], ◌∷◌, length, MatchOption};
+ghost use Rattle.std.specs.Prelude.{◌≡◌, MatchOption};
 ghost use Rattle.std.specs.Int.Count.{count_trailing_zeros};
 ghost use Rattle.sets.specs.Sets.{Lowest};
 ghost use Rattle.sets.specs.Walks.{decisions};
-ghost use Rattle.std.specs.Iterator.{at_most};
+ghost use Rattle.std.specs.Iterator.{YieldsFirstBy, item_count};
 
 use crate::decision::Decision;
 use crate::set::{Set, without};
@@ -38,14 +38,12 @@ impl Decisions {
 impl Iterator for Decisions {
     type Item = Decision;
 
-    ghost next_gives = { λ s r t. MatchOption r (decisions s.rest ≡ []) (λ d. decisions s.rest ≡ d.place ∷ decisions t.rest) };
+    ghost next_gives = { YieldsFirstBy (λ d. d.place) (λ s. decisions s.rest) };
 
-    ghost remaining = { λ s. at_most (length (decisions s.rest)) };
+    ghost remaining = { item_count (λ s. decisions s.rest) };
 
     fn next(&mut self) -> Option<Decision> {
-        let Some(d) = lowest(self.rest) else {
-            return None;
-        };
+        let d = lowest(self.rest)?;
         self.rest = without(self.rest, d);
         Some(d)
     }

@@ -1,6 +1,7 @@
 // Sets of decisions: the vocabulary in which every statement of the repository is written.
 #![tactic(auto)]
 
+pub mod coming;
 pub mod decision;
 pub mod decisions;
 pub mod laws;

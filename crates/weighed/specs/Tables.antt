@@ -42,30 +42,3 @@ weighed s cs ws = record {
   domain = λ k. pick cs k (λ c. c.domain) 0;
   family = λ k f. pick cs k (λ c. balanced s c ws f) false;
 }
-
--- whether the measure allows the bounds and the weights of a condition
-abbrev pub all_ok : {W T : Type 0} → Scale W T → List W → Bool
-all_ok s [] = true
-all_ok s (w ∷ ws) = s.ok w && all_ok s ws
-
-abbrev pub allowed : {W T : Type 0} → Scale W T → WeighedCondition W → List W → Bool
-allowed s c ws = s.fair c.low && (s.fair c.high && all_ok s (row c ws))
-
--- the meaning as a bank holds it: a condition that the measure does not allow would have the empty family. A load takes none, and for
--- what it takes the two are the same.
-abbrev pub guarded : {W T : Type 0} → Scale W T → List (WeighedCondition W) → List W → Meaning
-guarded s cs ws = record {
-  count = length cs;
-  domain = λ k. pick cs k (λ c. c.domain) 0;
-  family = λ k f. pick cs k (λ c. allowed s c ws && balanced s c ws f) false;
-}
-
--- the parts of validity that a bank keeps
-abbrev pub Few : {W : Type 0} → List (WeighedCondition W) → Type 0
-Few cs = length cs ≤ 256
-
-abbrev pub Narrow : {W : Type 0} → List (WeighedCondition W) → Type 0
-Narrow cs = (k : ℕ) → size (pick cs k (λ c. c.domain) 0) ≤ 12
-
-abbrev pub Placed : {W : Type 0} → List (WeighedCondition W) → List W → Type 0
-Placed cs ws = (k : ℕ) → pick cs k (λ c. c.first + size c.domain) 0 ≤ length ws

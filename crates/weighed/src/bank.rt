@@ -1,32 +1,35 @@
-ghost use Rattle.std.specs.Prelude.{◌≡◌, ◌<◌, ◌≤◌, [], length, Decides, MatchOption, MatchResult, slice_index_or};
+ghost use Rattle.std.specs.Prelude.{◌≡◌, ℕ, ◌≤◌, [], length, Decides, MatchOption, MatchResult, slice_get};
+ghost use Rattle.std.proofs.Props.{props};
 ghost use Rattle.banks.specs.Meaning.{no_conditions, Always, Never};
 ghost use Rattle.refusals.specs.Numbers.{Says};
-ghost use Rattle.weighed.specs.Lawful.{guarded_lawful};
-ghost use Rattle.weighed.specs.Tables.{Valid, Few, Narrow, Placed, pick, weighed, guarded};
+ghost use Rattle.measures.specs.Scales.{laid};
+ghost use Rattle.sets.specs.Sets.{◌∩◌, Between};
+ghost use Rattle.sets.specs.Walks.{decisions};
+ghost use Rattle.weighed.specs.Lawful.{valid_lawful};
+ghost use Rattle.weighed.specs.Tables.{Valid, pick, weighed};
+ghost use Rattle.weighed.specs.Totals.{chosen, within};
 
-use crate::asking::{ask_always, ask_never};
 use crate::condition::WeighedCondition;
 use crate::tables::valid;
+use crate::weighing::Weighing;
 use banks::bank::Bank;
 use measures::measure::Measure;
 use refusals::refusal::Refusal;
 use sets::set::Set;
 use sets::span::Span;
 
-// A bank over tables that were found valid; they stay the caller's.
+// A bank over valid tables; they stay the caller's.
 #[derive(Drop)]
 pub struct WeighedBank<'a, M: Measure> {
     conditions: &'a [WeighedCondition<M::Raw>],
     weights: &'a [M::Raw],
-    ghost few: { Few conditions.now },
-    ghost narrow: { Narrow conditions.now },
-    ghost placed: { Placed conditions.now weights.now },
+    ghost valid: { Valid M.scale conditions.now weights.now } by { Prim.hlevel props },
 }
 
 impl<'a, M: Measure> WeighedBank<'a, M> {
     // A bank with no conditions.
     pub fn new() -> WeighedBank<'a, M>
-        ensures { guarded M.scale result.conditions.now result.weights.now ≡ no_conditions }
+        ensures { weighed M.scale result.conditions.now result.weights.now ≡ no_conditions }
     {
         WeighedBank {
             conditions: &[],
@@ -42,10 +45,10 @@ impl<'a, M: Measure> WeighedBank<'a, M> {
     ) -> Result<(), Refusal>
         ensures { MatchResult result
             (λ _. Valid M.scale conditions.now weights.now
-            × (guarded M.scale self.new.conditions.now self.new.weights.now ≡ weighed M.scale conditions.now weights.now))
+            × (weighed M.scale self.new.conditions.now self.new.weights.now ≡ weighed M.scale conditions.now weights.now))
             (λ e. (Valid M.scale conditions.now weights.now → ⊥)
             × Says e 17 []
-            × (guarded M.scale self.new.conditions.now self.new.weights.now ≡ no_conditions)) }
+            × (weighed M.scale self.new.conditions.now self.new.weights.now ≡ no_conditions)) }
     {
         if valid::<M>(conditions, weights) {
             self.conditions = conditions;
@@ -62,49 +65,44 @@ impl<'a, M: Measure> WeighedBank<'a, M> {
 impl<M: Measure> WeighedBank<'_, M> {
     // Condition k, if there is one.
     fn at(&self, k: u16) -> Option<WeighedCondition<M::Raw>>
-        ensures { MatchOption result (length self.now.conditions.now ≤ k)
-            (λ c. (k < length self.now.conditions.now) × (c ≡ slice_index_or self.now.conditions.now k c)) }
+        ensures { result ≡ slice_get self.now.conditions.now k }
     {
-        let k = k as usize;
-        if k < self.conditions.len() {
-            Some(self.conditions[k])
-        } else {
-            None
-        }
+        self.conditions.get(k as usize).copied()
     }
 
     fn domain_at(&self, k: u16) -> Set
         ensures { result ≡ pick self.now.conditions.now k (λ c. c.domain) 0 }
     {
-        match self.at(k) {
-            None => 0,
-            Some(c) => c.domain,
-        }
+        self.at(k).map_or(0, |c| c.domain)
+    }
+
+    // What condition k, if there is one, is asked over a span: the sets of the span, inside the domain, that are in its family are those
+    // that bring the total between the bounds.
+    fn weighing(&self, k: u16, span: Span) -> Option<Weighing<'_, M>>
+        ensures { let m = weighed M.scale self.now.conditions.now self.now.weights.now in MatchOption result (m.count ≤ k)
+            (λ g. (g.span.lower ≡ span.lower ∩ m.domain k) × (g.span.upper ≡ span.upper ∩ m.domain k)
+            × ((f : ℕ) → Between g.span.lower g.span.upper f
+            → m.family k f ≡ within M.scale (M.scale.bound g.low) (M.scale.bound g.high) (laid M.scale g.total (chosen (decisions g.domain) g.row.now f)))) }
+    {
+        let c = self.at(k)?;
+        Some(Weighing::new(&c, self.weights, span))
     }
 
     fn always_at(&self, k: u16, span: Span) -> bool
-        ensures { Decides result (Always (guarded M.scale self.now.conditions.now self.now.weights.now) k span.lower span.upper) }
+        ensures { Decides result (Always (weighed M.scale self.now.conditions.now self.now.weights.now) k span.lower span.upper) }
     {
-        match self.at(k) {
-            None => false,
-            Some(c) => ask_always::<M>(c, self.weights, span),
-        }
+        self.weighing(k, span).is_some_and(|g| g.hits())
     }
 
     fn never_at(&self, k: u16, span: Span) -> bool
-        ensures { Decides result (Never (guarded M.scale self.now.conditions.now self.now.weights.now) k span.lower span.upper) }
+        ensures { Decides result (Never (weighed M.scale self.now.conditions.now self.now.weights.now) k span.lower span.upper) }
     {
-        match self.at(k) {
-            None => true,
-            Some(c) => ask_never::<M>(c, self.weights, span),
-        }
+        self.weighing(k, span).is_none_or(|g| g.misses())
     }
 }
 
 impl<M: Measure> Bank for WeighedBank<'_, M> {
-    ghost meaning = { λ b. guarded M.Measure.scale b.conditions.now b.weights.now };
-
-    ghost lawful = { λ b. guarded_lawful M.Measure.scale b.conditions.now b.weights.now b.few b.narrow };
+    ghost meaning = { λ b. weighed M.Measure.scale b.conditions.now b.weights.now };
 
     fn count(&self) -> u16 {
         self.conditions.len() as u16
@@ -121,4 +119,6 @@ impl<M: Measure> Bank for WeighedBank<'_, M> {
     fn never(&self, k: u16, span: Span) -> bool {
         self.never_at(k, span)
     }
+
+    ghost lawful = { λ b. valid_lawful M.Measure.scale b.conditions.now b.weights.now b.valid };
 }

@@ -1,44 +1,23 @@
-ghost use Rattle.std.specs.Prelude.{◌≡◌, ◌+◌, ◌≤◌, true, ◌&&◌, Decides};
-ghost use Rattle.sets.specs.Sets.{size};
-ghost use Rattle.weighed.specs.Tables.{all_ok, Sound, Valid};
+ghost use Rattle.std.specs.Prelude.{◌≡◌, true, Decides};
+ghost use Rattle.std.specs.List.{AllByRecursion};
+ghost use Rattle.measures.specs.Scales.{Allowed};
+ghost use Rattle.weighed.specs.Tables.{Sound, Valid};
 
 use crate::condition::WeighedCondition;
+use banks::tables::{MAX_CONDITIONS, narrow, placed};
 use measures::measure::Measure;
-use sets::set::{Set, count};
-
-// The most conditions that one table may have, and the most decisions in a domain.
-const MAX_CONDITIONS: usize = 256;
-
-const MAX_DOMAIN: u32 = 12;
-
-fn narrow(domain: Set) -> bool
-    ensures { Decides result (size domain ≤ 12) }
-{
-    count(domain) <= MAX_DOMAIN
-}
-
-// Whether one place for each decision of the domain, from `first` on, lies inside a row of `total`.
-fn placed(first: usize, domain: Set, total: usize) -> bool
-    ensures { Decides result (first + size domain ≤ total) }
-{
-    first <= total && count(domain) as usize <= total - first
-}
+use sets::set::count;
 
 // Whether each figure of a row may be a weight.
 fn all_weights<M: Measure>(row: &[M::Raw]) -> bool
-    ensures { result ≡ all_ok M.scale row.now }
+    ensures { Decides result (Allowed M.scale row.now) }
 {
-    for w in row {
-        if !M::is_weight(*w) {
-            return false;
-        }
-    }
-    true
+    row.iter().all(|w| M::is_weight(*w))
 }
 
 // Whether the measure allows two bounds and a row of weights.
-pub(crate) fn allows<M: Measure>(low: M::Raw, high: M::Raw, row: &[M::Raw]) -> bool
-    ensures { result ≡ (M.scale.fair low && (M.scale.fair high && all_ok M.scale row.now)) }
+fn allows<M: Measure>(low: M::Raw, high: M::Raw, row: &[M::Raw]) -> bool
+    ensures { Decides result ((M.scale.fair low ≡ true) × (M.scale.fair high ≡ true) × Allowed M.scale row.now) }
 {
     M::is_bound(low) && M::is_bound(high) && all_weights::<M>(row)
 }
@@ -46,25 +25,20 @@ pub(crate) fn allows<M: Measure>(low: M::Raw, high: M::Raw, row: &[M::Raw]) -> b
 fn sound<M: Measure>(c: &WeighedCondition<M::Raw>, weights: &[M::Raw]) -> bool
     ensures { Decides result (Sound M.scale weights.now c.now) }
 {
-    let from = c.first;
-    if !narrow(c.domain) || !placed(from, c.domain, weights.len()) {
-        return false;
-    }
-    let to = from + count(c.domain) as usize;
-    allows::<M>(c.low, c.high, &weights[from..to])
+    narrow(c.domain)
+        && placed(c.first, count(c.domain) as usize, weights.len())
+        && allows::<M>(c.low, c.high, c.row_in(weights))
+}
+
+fn all_sound<M: Measure>(conditions: &[WeighedCondition<M::Raw>], weights: &[M::Raw]) -> bool
+    ensures { Decides result (AllByRecursion (Sound M.scale weights.now) conditions.now) }
+{
+    conditions.iter().all(|c| sound::<M>(c, weights))
 }
 
 // Whether the tables are valid, read whole.
 pub(crate) fn valid<M: Measure>(conditions: &[WeighedCondition<M::Raw>], weights: &[M::Raw]) -> bool
     ensures { Decides result (Valid M.scale conditions.now weights.now) }
 {
-    if conditions.len() > MAX_CONDITIONS {
-        return false;
-    }
-    for c in conditions {
-        if !sound::<M>(c, weights) {
-            return false;
-        }
-    }
-    true
+    conditions.len() <= MAX_CONDITIONS && all_sound::<M>(conditions, weights)
 }

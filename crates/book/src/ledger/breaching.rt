@@ -1,8 +1,7 @@
 ghost use Rattle.std.specs.Prelude.{◌≡◌, List};
 ghost use Rattle.answer_sets.specs.Rules.{Keeps};
-ghost use Rattle.answer_sets.specs.Naming.{head_number};
 ghost use Rattle.rows.specs.Listings.{Lists};
-ghost use Rattle.rules.specs.Shapes.{rule_of, rules_of};
+ghost use Rattle.rules.specs.Shapes.{rules_of};
 ghost use Rattle.book.specs.Looking.{Breaches};
 ghost use Rattle.book.specs.View.{view};
 
@@ -10,20 +9,18 @@ use crate::breach::Breach;
 use crate::ledger::Ledger;
 use banks::bank::Bank;
 use judge::keeping::keeps;
-use naming::head::head_number;
 use rows::lent::LentList;
-use rows::listing::{Ending, Listing};
+use rows::listing::Listing;
 use rules::rule::Rule;
 use sets::set::Set;
 
 // The record of a broken rule.
 fn breach(number: usize, rule: &Rule) -> Breach
-    ensures rule { result.rule ≡ number }
-    ensures head { result.head ≡ head_number (rule_of rule.now).head }
+    ensures { result ≡ record { rule = number; head = rule.now.head } }
 {
     Breach {
         rule: number,
-        head: head_number(rule.head()),
+        head: rule.head(),
     }
 }
 
@@ -37,22 +34,20 @@ fn list_breaches<B: Bank>(
     ensures { (items : List Breach) × Breaches (B.meaning bank.now) set 0 (rules_of rules.now) items × Lists items places.old result places.new }
 {
     let mut list = LentList::new(places);
-    for i in 0..rules.len() {
-        let rule = &rules[i];
+    for (i, rule) in rules.iter().enumerate() {
         if keeps(bank, rule, set) {
             continue;
         }
-        let found = breach(i, rule);
-        if !list.put(found) {
+        if let Err(found) = list.put(breach(i, rule)) {
             return Listing {
                 placed: list.len(),
-                ending: Ending::NoPlace(found),
+                unplaced: Some(found),
             };
         }
     }
     Listing {
         placed: list.len(),
-        ending: Ending::Complete,
+        unplaced: None,
     }
 }
 

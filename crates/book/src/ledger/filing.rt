@@ -1,7 +1,8 @@
 ghost use Rattle.std.specs.Prelude.{◌≡◌, ◌<◌, length, Decides, MatchResult};
 ghost use Rattle.std.specs.List.{AllByRecursion};
-ghost use Rattle.answer_sets.specs.Rules.{Keeps};
+ghost use Rattle.answer_sets.specs.Rules.{Keeps, Ranked};
 ghost use Rattle.refusals.specs.Numbers.{number, told};
+ghost use Rattle.refusals.specs.declared.refusal.Refusal.TheVariants.{BadRanks};
 ghost use Rattle.rows.specs.Rows.{held};
 ghost use Rattle.rules.specs.Shapes.{way_of};
 ghost use Rattle.account.specs.Account.{file, lodge, PagesWith, Step};
@@ -13,26 +14,27 @@ use crate::ledger::Ledger;
 use crate::limits::MAX_PAGES;
 use crate::page::Page;
 use banks::bank::Bank;
-use judge::bearing::{bears, ranked};
+use judge::bearing::ranked;
 use judge::keeping::lowest_broken;
-use judge::ranking::rank_set;
+use judge::ranks::Ranks;
 use refusals::refusal::Refusal;
 use rules::way::Way;
 use sets::set::Set;
 
-// A copy of 64 ranks.
-fn copied(ranks: &[u8]) -> [u8; 64]
-    requires { length ranks.now ≡ 64 }
-    ensures { result ≡ ranks.now }
+// These bytes as ranks, if they are one for each decision, zero exactly outside the set.
+fn fitting(bytes: &[u8], set: Set) -> Result<Ranks, Refusal>
+    ensures { MatchResult result
+        (λ ranks. (ranks.bytes ≡ bytes.now) × Ranked set bytes.now)
+        (λ e. (e ≡ BadRanks) × (Ranked set bytes.now → ⊥)) }
 {
-    let mut places = [0u8; 64];
-    places.copy_from_slice(ranks);
-    places
+    if !ranked(bytes, set) {
+        return Err(Refusal::BadRanks);
+    }
+    Ranks::try_from(bytes).map_err(|_| Refusal::BadRanks)
 }
 
 // A page on so many rules.
-fn page_on(way: Way, set: Set, ranks: [u8; 64], rules: usize) -> Page
-    requires { length ranks ≡ 64 }
+fn page_on(way: Way, set: Set, ranks: Ranks, rules: usize) -> Page
     ensures { (result.way ≡ way) × (result.«set» ≡ set) × (result.ranks ≡ ranks) × (result.rules ≡ rules) }
 {
     Page {
@@ -76,43 +78,38 @@ impl<B: Bank> Ledger<B> {
     }
 
     // The ranks with which a set is to be filed, or why it may not be.
-    fn fileable(&self, way: Way, set: Set) -> Result<[u8; 64], Refusal>
+    fn fileable(&self, way: Way, set: Set) -> Result<Ranks, Refusal>
         ensures { MatchResult result
-            (λ ranks. (length (held self.now.pages) < max_pages) × (length ranks ≡ 64)
+            (λ ranks. (length (held self.now.pages) < max_pages)
             × Accepts (B.meaning self.now.bank) (view self.now) (file (way_of way) set) (length (view self.now).pages)
-            (PagesWith (view self.now) (way_of way) set ranks))
+            (PagesWith (view self.now) (way_of way) set ranks.bytes))
             (Refuses (B.meaning self.now.bank) (view self.now) (file (way_of way) set)) }
     {
         self.pageable(set)?;
-        match rank_set(&self.bank, way, self.rules.as_slice(), set) {
-            Some(ranks) => Ok(ranks),
-            None => Err(Refusal::Unborne),
-        }
+        self.program(way).rank_set(set).ok_or(Refusal::Unborne)
     }
 
     // The ranks with which a set is to be lodged, or why it may not be.
-    fn lodgeable(&self, way: Way, set: Set, ranks: &[u8]) -> Result<[u8; 64], Refusal>
+    fn lodgeable(&self, way: Way, set: Set, ranks: &[u8]) -> Result<Ranks, Refusal>
         ensures { MatchResult result
-            (λ kept. (length (held self.now.pages) < max_pages) × (length kept ≡ 64)
+            (λ kept. (length (held self.now.pages) < max_pages)
             × Accepts (B.meaning self.now.bank) (view self.now) (lodge (way_of way) set ranks.now) (length (view self.now).pages)
-            (PagesWith (view self.now) (way_of way) set kept))
+            (PagesWith (view self.now) (way_of way) set kept.bytes))
             (Refuses (B.meaning self.now.bank) (view self.now) (lodge (way_of way) set ranks.now)) }
     {
-        if !ranked(ranks, set) {
-            return Err(Refusal::BadRanks);
-        }
+        let kept = fitting(ranks, set)?;
         self.pageable(set)?;
-        if !bears(&self.bank, way, self.rules.as_slice(), set, ranks) {
+        if !self.program(way).bears(set, ranks) {
             return Err(Refusal::Unborne);
         }
-        Ok(copied(ranks))
+        Ok(kept)
     }
 
     // Puts a page last that rests on all the rules, and answers its number.
-    fn add_page(&mut self, way: Way, set: Set, ranks: [u8; 64]) -> usize
-        requires { (length (held self.old.pages) < max_pages) × (length ranks ≡ 64) }
+    fn add_page(&mut self, way: Way, set: Set, ranks: Ranks) -> usize
+        requires { length (held self.old.pages) < max_pages }
         ensures number { result ≡ length (view self.old).pages }
-        ensures after { PagesWith (view self.old) (way_of way) set ranks (view self.new) }
+        ensures after { PagesWith (view self.old) (way_of way) set ranks.bytes (view self.new) }
         ensures same { self.new.bank ≡ self.old.bank }
     {
         let at = self.pages.len();

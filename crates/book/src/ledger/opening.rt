@@ -5,18 +5,20 @@ ghost use Rattle.book.specs.View.{view};
 use crate::ledger::Ledger;
 use crate::page::Page;
 use banks::bank::Bank;
+use judge::ranks::Ranks;
 use rows::row::Row;
-use rules::head::Head;
 use rules::rule::Rule;
 use rules::way::Way;
 
 // What stands in the places of pages that are not there.
-const NO_PAGE: Page = Page {
-    way: Way::Reduct,
-    set: 0,
-    ranks: [0; 64],
-    rules: 0,
-};
+fn no_page() -> Page {
+    Page {
+        way: Way::Reduct,
+        set: 0,
+        ranks: Ranks::none(),
+        rules: 0,
+    }
+}
 
 impl<B: Bank> Ledger<B> {
     // An empty ledger over a bank.
@@ -27,7 +29,7 @@ impl<B: Bank> Ledger<B> {
         Ledger {
             bank,
             rules: Row::new(Rule::empty()),
-            pages: Row::new(NO_PAGE),
+            pages: Row::new(no_page()),
         }
     }
 }

@@ -23,7 +23,7 @@ impl<B: Bank> Ledger<B> {
             (λ p. LowestAnswer (B.meaning self.now.bank) (way_of way) (view self.now).rules start p.0)
             (λ e. number e ≡ 28 → NoAnswer (B.meaning self.now.bank) (way_of way) (view self.now).rules start) }
     {
-        next_set(&self.bank, way, self.rules.as_slice(), start)
+        next_set(&self.program(way), start)
     }
 
     pub(crate) fn gather(
@@ -36,6 +36,6 @@ impl<B: Bank> Ledger<B> {
             (λ listing. Gathers (B.meaning self.now.bank) (way_of way) (view self.now).rules start places.old listing places.new)
             (λ e. Says e 27 [] × HasManyHeads (view self.now).rules × (places.new ≡ places.old)) }
     {
-        gather_sets(&self.bank, way, self.rules.as_slice(), start, places)
+        gather_sets(&self.program(way), start, places)
     }
 }

@@ -3,9 +3,9 @@ ghost use Rattle.book.specs.Looking.{Shown};
 ghost use Rattle.book.specs.View.{view};
 
 use crate::ledger::Ledger;
-use crate::page::Page;
 use crate::summary::Summary;
 use banks::bank::Bank;
+use judge::ranks::Ranks;
 use refusals::refusal::Refusal;
 
 // The number of ranks of a page.
@@ -18,24 +18,12 @@ fn is_short(memory: &[u8]) -> bool
     memory.len() < RANKS
 }
 
-// Writes 64 ranks in the front of the memory.
-fn write_ranks(memory: &mut [u8], ranks: &[u8])
-    requires { (length ranks.now ≡ 64) × (64 ≤ length memory.old) }
-    ensures { memory.new ≡ ranks.now ++ drop 64 memory.old }
+// Writes the ranks in the front of the memory.
+fn write_ranks(memory: &mut [u8], ranks: &Ranks)
+    requires { 64 ≤ length memory.old }
+    ensures { memory.new ≡ ranks.now.bytes ++ drop 64 memory.old }
 {
-    let front = &mut memory[0..RANKS];
-    front.copy_from_slice(ranks);
-}
-
-// What is told of a page.
-fn summary_of(page: &Page) -> Summary
-    ensures { (result.way ≡ page.now.way) × (result.«set» ≡ page.now.«set») × (result.rules ≡ page.now.rules) }
-{
-    Summary {
-        way: page.way,
-        set: page.set,
-        rules: page.rules,
-    }
+    memory[..RANKS].copy_from_slice(ranks.as_slice());
 }
 
 impl<B: Bank> Ledger<B> {
@@ -49,6 +37,6 @@ impl<B: Bank> Ledger<B> {
             return Err(Refusal::NoPage);
         };
         write_ranks(memory, &page.ranks);
-        Ok(summary_of(page))
+        Ok(Summary::from(page))
     }
 }

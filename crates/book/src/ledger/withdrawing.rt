@@ -15,10 +15,7 @@ impl<B: Bank> Ledger<B> {
     fn rules_held(&self) -> usize
         ensures { result ≡ last_of (counts (held self.now.pages)) }
     {
-        match self.pages.as_slice().last() {
-            Some(page) => page.rules,
-            None => 0,
-        }
+        self.pages.as_slice().last().map_or(0, |page| page.rules)
     }
 
     // Whether the last page rests on the last rule.
@@ -32,10 +29,7 @@ impl<B: Bank> Ledger<B> {
     fn last_rule(&self) -> Option<usize>
         ensures { Options.MatchOption result (length (held self.now.rules) ≡ 0) (λ n. n + 1 ≡ length (held self.now.rules)) }
     {
-        match self.rules.len() {
-            0 => None,
-            n => Some(n - 1),
-        }
+        self.rules.len().checked_sub(1)
     }
 
     // The number of the last rule, or why it may not be withdrawn.
@@ -45,9 +39,7 @@ impl<B: Bank> Ledger<B> {
             × Accepts (B.meaning self.now.bank) (view self.now) withdraw n (RulesCut (view self.now) n))
             (Refuses (B.meaning self.now.bank) (view self.now) withdraw) }
     {
-        let Some(last) = self.last_rule() else {
-            return Err(Refusal::NoRule);
-        };
+        let last = self.last_rule().ok_or(Refusal::NoRule)?;
         if self.is_held() {
             return Err(Refusal::RuleHeld);
         }

@@ -2,7 +2,7 @@ use Rattle.std.proofs.Common.{◌≡◌, ◌-◌, ◌*◌, ◌/◌, ◌%◌, ◌
 use lib.Count.{ones-le}
 use Rattle.std.proofs.lemmas.List.{take_rest}
 use Rattle.frames.proofs.Fronts.{only_3, rule_front, page_front}
-use Rattle.frames.specs.Bytes.{way_byte}
+use Rattle.rules.specs.Bytes.{way_byte}
 use Rattle.rules.specs.Shapes.{way_of}
 use Rattle.frames.proofs.reading.frame_of.Goals as goal
 
