@@ -1,46 +1,17 @@
--- Chains over the decisions of a set.
-use Rattle.std.proofs.Common.{◌≡◌, ℕ, zero, suc, ◌^◌, ◌<◌, Bool, true, false, cond, ◌&&◌, ◌||◌, eqb, List, [], ◌∷◌, ◌++◌, length, get_or, set, filter, Decides, Option, refl, ap, ◌∙◌, subst, arith, MatchOption}
-use Rattle.std.specs.Bool.{MatchBool}
-use Rattle.std.specs.List.{HoldsAt, AllWithin, fold}
-use Rattle.std.proofs.lemmas.Iterator.{YieldsList}
-use Rattle.std.proofs.lemmas.Iterator.Consumers.{YieldsList-from_shown}
+-- Decisions that are collected in a set, and ranks that are given to decisions in turn.
+use Rattle.std.proofs.Common.{◌≡◌, ℕ, zero, suc, ◌^◌, ◌<◌, Bool, true, false, cond, ◌&&◌, ◌||◌, eqb, List, [], ◌∷◌, ◌++◌, length, get_or, set, filter, refl, ap, ◌∙◌, arith}
+use Rattle.std.specs.List.{fold}
 use Rattle.std.proofs.lemmas.List.Elements.{filter-append}
 use Rattle.std.proofs.lemmas.List.Sums.{fold-append}
-use Rattle.std.proofs.lemmas.Bool.{both_ways, and_from, and_left, and_right}
+use Rattle.std.proofs.lemmas.Bool.{and_from, and_left, and_right}
 use Rattle.std.proofs.lemmas.Bool.Decides.{Decides-below_and, nat_tests}
 use Rattle.std.proofs.lemmas.Grind.{common_steps}
 use Rattle.sets.specs.Sets.{has, ◌∈◌, ◌∪◌, single, collect}
 use Rattle.sets.specs.Lists.{member}
 use Rattle.sets.specs.Walks.{decisions, decisions_below}
 use Rattle.sets.proofs.Members.{same_test}
-use Rattle.sets.proofs.Ascending.{member_place, member_at}
 use Rattle.sets.proofs.Collecting.{collect_in, collect_out}
 use Rattle.sets.proofs.Listing.{decisions_listed}
-use Rattle.sets.specs.declared.decision.Decision.{Decision}
-use Rattle.sets.specs.declared.decisions.Decisions.{Decisions}
-
--- what one call of `next` does
-abbrev pub Steps : Decisions → Option Decision → Decisions → Type 0
-Steps s r t = MatchOption r (decisions s.rest ≡ []) (λ d. decisions s.rest ≡ d.place ∷ decisions t.rest)
-
-pub decisions_yield : (s : Decisions) (t : ℕ) → s.rest ≡ t → YieldsList Steps (λ d. d.place) s (decisions t)
-decisions_yield s t e =
-    subst (λ (x : ℕ). YieldsList Steps (λ d. d.place) s (decisions x)) e
-    (YieldsList-from_shown Steps (λ d. d.place) (λ u. decisions u.rest) (λ u v h. ap length h) (λ u d v h. h) s)
-
--- ---- what `all` answers of the decisions of a set
-
-module _ (s : ℕ) (fits : s < 2 ^ 64) (P : ℕ → Type 0) where
-  decision_at : (k : ℕ) → k < length (decisions s) → get_or (decisions s) k 0 ∈ s
-  decision_at k l = (decisions_listed.exactly s (get_or (decisions s) k 0) fits).0 (member_at (decisions s) k l)
-
-  pub decides_each : (r : Bool) → MatchBool r (AllWithin P (decisions s) 0 (length (decisions s)))
-      ((k : ℕ) × (k < length (decisions s)) × HoldsAt (λ d. P d → ⊥) (decisions s) k) → Decides r ((d : ℕ) → d ∈ s → P d)
-  decides_each true h = (
-    (λ _ d i. let p = member_place d (decisions s) ((decisions_listed.exactly s d fits).1 i) in subst P p.2 (h p.0 0 (omega arith) p.1)),
-    (λ _. refl),
-  )
-  decides_each false (k, l, h) = ((λ y. absurd (both_ways false refl y)), (λ a. absurd (h 0 (a (get_or (decisions s) k 0) (decision_at k l)))))
 
 -- ---- all sixty-four
 

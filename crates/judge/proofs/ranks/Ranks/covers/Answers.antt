@@ -1,11 +1,8 @@
-use Rattle.std.proofs.Common.{◌≡◌, ℕ, rules, tests}
-use Rattle.std.proofs.lemmas.Iterator.{cases_from_all}
+use Rattle.std.proofs.Common.{◌≡◌, rules, tests}
 use Rattle.answer_sets.specs.Rules.{rank}
-use Rattle.judge.proofs.Each.{decides_each, decisions_yield}
+use Rattle.sets.proofs.Chains.{all_of_decisions}
 use Rattle.judge.proofs.ranks.Ranks.covers.Goals as goal
 
 pub returns : goal.returns
 returns c =
-    let P : ℕ → Type 0 = λ d. rank c.args.self.now.bytes d ≡ 0 → ⊥ in
-    decides_each c.args.set c.ranges.set.fits P c.all.result
-    (cases_from_all _ _ _ P (λ d. P d → ⊥) c.all.ensures.ran (decisions_yield _ c.args.set (cc)) (λ x q k. search (rules, tests)) (λ x q k. search (rules, tests)))
+    all_of_decisions c.args.set _ _ (cc) c.ranges.set.fits _ c.all.result (λ d. rank c.args.self.now.bytes d ≡ 0 → ⊥) (λ x b q k. search (rules, tests)) c.all.ensures.ran

@@ -1,17 +1,16 @@
 use Rattle.std.proofs.Common.{◌≡◌, ℕ, ◌≤◌, lit<, rules, tests}
-use Rattle.std.proofs.lemmas.Iterator.{cases_from_all}
 use Rattle.sets.specs.Sets.{◌∈◌, ◌∉◌}
 use Rattle.sets.proofs.Members.{member_below}
 use Rattle.answer_sets.specs.Rules.{rank}
-use Rattle.judge.proofs.Each.{decides_each, decisions_yield, in_all}
+use Rattle.sets.proofs.Chains.{all_of_decisions}
+use Rattle.judge.proofs.Each.{in_all}
 use Rattle.judge.proofs.ranks.Ranks.fits.Goals as goal
 
 pub returns : goal.returns
 returns c =
     let s = c.args.set in let xs = c.args.self.now.bytes in
     let P : ℕ → Type 0 = λ d. (d ∉ s → rank xs d ≡ 0) × (d ∈ s → (1 ≤ rank xs d) × (rank xs d ≤ 255)) in
-    let e = decides_each 18446744073709551615 (lit< tt) P c.all.result
-    (cases_from_all _ _ _ P (λ d. P d → ⊥) c.all.ensures.ran (decisions_yield _ 18446744073709551615 (cc)) (λ x q k. search (rules, tests)) (λ x q k. search (rules, tests))) in (
+    let e = all_of_decisions 18446744073709551615 _ _ (cc) (lit< tt) _ c.all.result P (λ x b q k. search (rules, tests)) c.all.ensures.ran in (
       (λ h. record {
         places = c.args.self.now.all;
         outside = λ d l o. (e.0 h d (in_all d l)).0 o;

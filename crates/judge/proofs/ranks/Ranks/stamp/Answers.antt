@@ -2,7 +2,8 @@ use Rattle.std.proofs.Common.{ℕ, List, [], ◌∷◌, sym, subst}
 use Rattle.std.proofs.lemmas.List.{map-append}
 use Rattle.std.proofs.lemmas.Iterator.Consumers.{YieldsList-end}
 use Rattle.sets.specs.declared.decision.Decision.{Decision}
-use Rattle.judge.proofs.Each.{StampedAt, decisions_yield, stamped_push, stamped_all}
+use Rattle.sets.proofs.Chains.{yields_decisions}
+use Rattle.judge.proofs.Each.{StampedAt, stamped_push, stamped_all}
 use Rattle.judge.proofs.ranks.Ranks.stamp.Goals as goal
 
 pub loop-d-preserved : goal.loop-d-preserved
@@ -12,5 +13,5 @@ loop-d-preserved c =
 
 pub returns : goal.returns
 returns c =
-    let end = YieldsList-end (decisions_yield c.into_iter-d-iterator.result c.args.set (cc)) c.loop-d.yielded c.loop-d.d-iterator c.loop-d.yielded_by c.next.result _ c.in-None.is c.next.ensures.steps in
+    let end = YieldsList-end (yields_decisions c.into_iter-d-iterator.result c.args.set (cc)) c.loop-d.yielded c.loop-d.d-iterator c.loop-d.yielded_by c.next.result _ c.in-None.is c.next.ensures.steps in
     stamped_all c.args.set c.ranges.set.fits c.args.rank c.args.self.now.bytes c.loop-d.self.bytes (subst (λ (given : List ℕ). StampedAt c.args.rank c.args.self.now.bytes given c.loop-d.self.bytes) end.0 c.loop-d.invariant)
