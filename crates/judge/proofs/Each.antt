@@ -1,23 +1,17 @@
--- Chains over the decisions of a set.
-use Rattle.std.proofs.Common.{◌≡◌, ℕ, zero, suc, ◌^◌, ◌<◌, Bool, true, false, cond, ◌&&◌, ◌||◌, eqb, List, [], ◌∷◌, ◌++◌, length, get_or, set, filter, Decides, Option, refl, ap, ◌∙◌, subst, arith, MatchOption}
-use Rattle.std.specs.Bool.{MatchBool}
-use Rattle.std.specs.List.{HoldsAt, AllWithin, fold}
-use Rattle.std.proofs.lemmas.Iterator.{YieldsList}
-use Rattle.std.proofs.lemmas.Iterator.Consumers.{YieldsList-from_shown}
+-- Decisions that are collected in a set, and ranks that are given to decisions in turn.
+use Rattle.std.proofs.Common.{◌≡◌, ℕ, zero, suc, ◌^◌, ◌<◌, Bool, true, false, cond, ◌&&◌, ◌||◌, eqb, List, [], ◌∷◌, ◌++◌, length, get_or, set, filter, refl, ap, ◌∙◌, arith}
+use Rattle.std.specs.List.{fold}
 use Rattle.std.proofs.lemmas.List.Elements.{filter-append}
 use Rattle.std.proofs.lemmas.List.Sums.{fold-append}
-use Rattle.std.proofs.lemmas.Bool.{both_ways, and_from, and_left, and_right}
+use Rattle.std.proofs.lemmas.Bool.{and_from, and_left, and_right}
 use Rattle.std.proofs.lemmas.Bool.Decides.{Decides-below_and, nat_tests}
 use Rattle.std.proofs.lemmas.Grind.{common_steps}
 use Rattle.sets.specs.Sets.{has, ◌∈◌, ◌∪◌, single, collect}
 use Rattle.sets.specs.Lists.{member}
 use Rattle.sets.specs.Walks.{decisions, decisions_below}
 use Rattle.sets.proofs.Members.{same_test}
-use Rattle.sets.proofs.Ascending.{member_place, member_at}
 use Rattle.sets.proofs.Collecting.{collect_in, collect_out}
 use Rattle.sets.proofs.Listing.{decisions_listed}
-use Rattle.sets.specs.declared.decision.Decision.{Decision}
-use Rattle.sets.specs.declared.decisions.Decisions.{Decisions}
 
 -- ---- all sixty-four
 
