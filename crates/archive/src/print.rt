@@ -36,7 +36,8 @@ fn put_page(memory: &mut [u8], at: usize, rules: &[Rule], page: &Page, k: usize)
     put_line(memory, at, &page_bytes(page))
 }
 
-// Puts the lines of the pages that rest on exactly k rules.
+// Puts the lines of the pages that rest on exactly k rules. Rules and pages stay two parameters, here and in the two functions below: a pair
+// would be taken apart again in each contract.
 fn put_pages(memory: &mut [u8], at: usize, rules: &[Rule], pages: &[Page], k: usize) -> usize
     requires { at + 149 * length pages.now < 2 ^ 32 }
     ensures puts { Puts memory.old at (lines_on k (map (page_of (rules_of rules.now)) pages.now)) memory.new result }

@@ -17,7 +17,8 @@ mod searching;
 mod showing;
 mod withdrawing;
 
-// The rules and pages over a bank. They are held in place: no call on a book may fail for want of memory.
+// The rules and pages over a bank. They are held in place: no call on a book may fail for want of memory. Its calls stand a second time at the
+// open book, which shows them: the ledger is what an open book has in common with other kinds of book.
 #[derive(Drop)]
 pub struct Ledger<B: Bank> {
     bank: B,

@@ -18,7 +18,7 @@ use rows::listing::Listing;
 use rules::way::Way;
 use sets::set::Set;
 
-// A book that takes rules and pages.
+// A book that takes rules and pages. It has no model: that would hide the bank itself, which each call promises to leave as it is.
 #[derive(Drop)]
 pub struct OpenBook<B: Bank> {
     ledger: Ledger<B>,
