@@ -2,7 +2,7 @@
 use Rattle.std.proofs.Common.{◌≡◌, ℕ, ◌+◌, ◌*◌, ◌/◌, ◌^◌, ◌<◌, ◌≤◌, false, List, [], ◌∷◌, ◌++◌, map, length, get_or, take, sym, refl, ap, ◌∙◌, append_assoc, arith}
 use lib.Count.{ones-le}
 use Rattle.std.specs.List.{flat_map}
-use Rattle.std.proofs.lemmas.List.{length-take, map_more, flat_map_more}
+use Rattle.std.proofs.lemmas.List.{map_more, flat_map_more}
 use Rattle.sets.specs.Walks.{decisions}
 use Rattle.sets.proofs.Listing.{decisions_listed}
 use Rattle.answer_sets.specs.Rules as meant

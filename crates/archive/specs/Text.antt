@@ -1,5 +1,5 @@
 -- The text of a book: a header, the rules with the pages among them, and a trailer, each a line.
-use Rattle.std.specs.Prelude.{ℕ, ◌+◌, ◌%◌, cond, List, [], ◌∷◌, ◌++◌, map, length, filter, nat_eq}
+use Rattle.std.specs.Prelude.{ℕ, ◌+◌, List, [], ◌∷◌, ◌++◌, map, length, filter, nat_eq}
 use Rattle.std.specs.List.{flat_map}
 use Rattle.sets.specs.Walks.{decisions}
 use Rattle.answer_sets.specs.Rules.{Entry, Rule, rank}

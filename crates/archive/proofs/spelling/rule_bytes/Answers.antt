@@ -1,4 +1,4 @@
-use Rattle.std.proofs.Common.{◌++◌, map, length, take, sym, ap, ◌∙◌, arith}
+use Rattle.std.proofs.Common.{◌++◌, map, length, sym, ap, ◌∙◌, arith}
 use Rattle.std.proofs.lemmas.List.{length-map}
 use Rattle.rows.specs.Rows.{held}
 use Rattle.rules.specs.Shapes.{entry_of, head_of}

@@ -1,13 +1,11 @@
-use Rattle.std.proofs.Common.{◌≡◌, ℕ, List, length, sym, ◌∙◌, subst, arith}
+use Rattle.std.proofs.Common.{ℕ, List, length, sym, ◌∙◌, subst, arith}
 use Rattle.std.proofs.lemmas.List.{length-map}
 use Rattle.std.proofs.lemmas.Result.{err_from_is_err_and}
 use Rattle.std.proofs.lemmas.Bool.Decides.{not_from_Decides}
-use Rattle.answer_sets.specs.Rules.{Bears}
 use Rattle.refusals.specs.Numbers.{number, told}
 use Rattle.refusals.specs.declared.refusal.Refusal.TheVariants.{BadRanks, Unborne}
 use Rattle.rows.specs.Rows.{held}
-use Rattle.rules.specs.Shapes.{way_of, rules_of}
-use Rattle.rules.specs.declared.rule.Rule.{Rule}
+use Rattle.rules.specs.Shapes.{way_of}
 use Rattle.account.specs.Account.{lodge, PagesWith}
 use Rattle.book.specs.Ready.{Accepts, Refuses}
 use Rattle.book.specs.View.{view, page_of}

@@ -1,12 +1,11 @@
-use Rattle.std.proofs.Common.{◌≡◌, ℕ, ◌<◌, ◌≤◌, List, length, get_or, drop, sym, refl, ap, ◌∙◌, subst, inr, arith, rules}
+use Rattle.std.proofs.Common.{◌≡◌, ℕ, ◌<◌, ◌≤◌, length, get_or, sym, refl, ap, ◌∙◌, subst, inr, arith, rules}
 use Rattle.std.proofs.lemmas.List.{length-map, length-take-le, get_or-map}
-use Rattle.answer_sets.specs.Rules as meant
 use Rattle.rows.specs.Rows.{held}
 use Rattle.rules.specs.Shapes.{way_of, rule_of, rules_of}
 use Rattle.account.specs.Account as plain
 use Rattle.book.specs.Counts.{counts}
 use Rattle.book.specs.Looking.{Tells}
-use Rattle.book.specs.View.{view, page_of}
+use Rattle.book.specs.View.{page_of}
 use Rattle.book.specs.declared.page.Page.{Page}
 use Rattle.book.proofs.ledger.Ledger.page.Goals as goal
 

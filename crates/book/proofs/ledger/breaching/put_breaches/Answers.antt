@@ -1,4 +1,4 @@
-use Rattle.std.proofs.Common.{◌≡◌, ◌+◌, ◌<◌, List, ◌∷◌, get_or, length, drop, refl, sym, ap, ◌∙◌, arith, rules}
+use Rattle.std.proofs.Common.{◌+◌, ◌∷◌, drop, refl, sym, ap, ◌∙◌, arith}
 use Rattle.std.proofs.lemmas.Bool.Decides.{not_from_Decides}
 use Rattle.rows.proofs.Listings.{placing_none, placing_rest, placing_put, placing_short, placing_complete}
 use Rattle.book.proofs.Broken.{broken_list, breaches_of, past_kept, past_broken, past_all}
