@@ -6,7 +6,7 @@ ghost use Rattle.listed.specs.Tables.{Valid, Narrow, Placed, Ordered, Contained,
 ghost use Rattle.listed.specs.Lawful.{listed_lawful};
 
 use crate::condition::ListedCondition;
-use crate::row::{holds_all, holds_none};
+use crate::row::Ascending;
 use crate::tables::{row_of, valid};
 use banks::bank::Bank;
 use refusals::refusal::Refusal;
@@ -67,10 +67,10 @@ impl ListedBank<'_> {
     }
 
     // The sets of condition k.
-    fn row_of(&self, k: u16) -> &[Set]
-        ensures { result.now ≡ row (condition self.now.conditions.now k) self.now.sets.now }
+    fn row_of(&self, k: u16) -> Ascending<'_>
+        ensures { result.sets.now ≡ row (condition self.now.conditions.now k) self.now.sets.now }
     {
-        row_of(&self.at(k), self.sets)
+        Ascending::new(row_of(&self.at(k), self.sets))
     }
 }
 
@@ -86,11 +86,11 @@ impl Bank for ListedBank<'_> {
     }
 
     fn always(&self, k: u16, span: Span) -> bool {
-        holds_all(self.row_of(k), span.cut(self.domain(k)))
+        self.row_of(k).holds_all(span.cut(self.domain(k)))
     }
 
     fn never(&self, k: u16, span: Span) -> bool {
-        holds_none(self.row_of(k), span.cut(self.domain(k)))
+        self.row_of(k).holds_none(span.cut(self.domain(k)))
     }
 
     ghost lawful = { λ b. listed_lawful b.conditions.now b.sets.now b.few b.narrow b.contained };
