@@ -18,7 +18,7 @@ mod showing;
 mod withdrawing;
 
 // The rules and pages over a bank. They are held in place: no call on a book may fail for want of memory. Its calls stand a second time at the
-// open book, which shows them: the ledger is what an open book has in common with other kinds of book.
+// open book, which shows them. One type for both would be no plainer: what may be called is the book's type, and what is done is the ledger's.
 #[derive(Drop)]
 pub struct Ledger<B: Bank> {
     bank: B,

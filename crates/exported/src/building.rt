@@ -13,7 +13,7 @@ use rows::row::Row;
 use rules::rule::{MAX_BODY, Rule};
 use rules::way::Way;
 
-// The way of a number: the interface for C counts the ways from 0.
+// The way of a number: the interface for C counts the ways from 0, so it is not the byte of a text.
 pub(crate) fn way_named(way: u8) -> Result<Way, Refusal>
     ensures { MatchResult result (λ w. way_of w ≡ way_numbered way) (λ e. Says e 14 []) }
 {
@@ -24,13 +24,13 @@ pub(crate) fn way_named(way: u8) -> Result<Way, Refusal>
     }
 }
 
-// Puts one line more at the end, unless the table is full.
-fn keep_line(lines: &mut Row<ListedCondition, 256>, c: &ConditionNumbers) -> Result<(), Refusal>
-    ensures { MatchResult result (λ _. held lines.new ≡ held lines.old ++ line c.now ∷ []) (λ e. Says e 17 []) }
+// Puts one item more at the end of a list; where the list is full, this refusal.
+fn keep<T: Copy, const N: usize>(list: &mut Row<T, N>, x: T, full: Refusal) -> Result<(), Refusal>
+    ensures { MatchResult result
+        (λ _. held list.new ≡ held list.old ++ x ∷ [])
+        (λ e. (e ≡ full) × (held list.new ≡ held list.old)) }
 {
-    lines
-        .push(ListedCondition::from(c))
-        .map_err(|_| Refusal::BadTables)
+    list.push(x).map_err(|_| full)
 }
 
 // The table of conditions, unless there are more than a table may have.
@@ -39,13 +39,9 @@ pub(crate) fn table_of(
 ) -> Result<Row<ListedCondition, 256>, Refusal>
     ensures { MatchResult result (λ t. held t ≡ table conditions.now) (λ e. Says e 17 []) }
 {
-    let mut lines = Row::new(ListedCondition {
-        domain: 0,
-        first: 0,
-        len: 0,
-    });
+    let mut lines = Row::new(ListedCondition::default());
     for c in conditions {
-        keep_line(&mut lines, c)?;
+        keep(&mut lines, ListedCondition::from(c), Refusal::BadTables)?;
     }
     Ok(lines)
 }
@@ -68,13 +64,6 @@ fn rule_of<B: Bank>(bank: &B, numbers: &RuleNumbers) -> Result<Rule, Refusal>
     rule_named(bank, numbers.head, &numbers.body[0..len])
 }
 
-// Puts one rule more at the end, unless the list is full.
-fn keep(rules: &mut Row<Rule, 128>, rule: Rule) -> Result<(), Refusal>
-    ensures { MatchResult result (λ _. held rules.new ≡ held rules.old ++ rule ∷ []) (λ e. Says e 21 []) }
-{
-    rules.push(rule).map_err(|_| Refusal::RulesFull)
-}
-
 // The rules of these numbers, unless there are more than a book may have.
 pub(crate) fn rules_of<B: Bank>(
     bank: &B,
@@ -85,7 +74,7 @@ pub(crate) fn rules_of<B: Bank>(
     let mut rules = Row::new(Rule::empty());
     for n in numbers {
         let rule = rule_of(bank, n)?;
-        keep(&mut rules, rule)?;
+        keep(&mut rules, rule, Refusal::RulesFull)?;
     }
     Ok(rules)
 }

@@ -23,6 +23,7 @@ fn front(text: &[u8]) -> Line
 {
     let mut line = Row::new(0);
     let mut rest = text;
+    // as often as a line has bytes, and no chunks of two: what follows the digits is still to be read
     for _ in 0..MAX_BYTES {
         let Some((b, more)) = split_byte(rest) else {
             return line;

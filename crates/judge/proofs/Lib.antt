@@ -3,3 +3,4 @@ pub mod Passing
 pub mod Each
 pub mod Growing
 pub mod Stamping
+pub mod Failing

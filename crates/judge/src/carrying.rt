@@ -9,6 +9,8 @@ use rules::entry::Entry;
 use rules::way::Way;
 use sets::span::Span;
 
+// Bank and way stay parameters here: what carries an entry asks for no rules, and a program without them would be no plainer.
+
 // Whether an entry is carried over a span.
 pub fn carried<B: Bank>(bank: &B, way: Way, e: Entry, span: Span) -> bool
     ensures { Decides result (Carried (B.meaning bank.now) (way_of way) (entry_of e) span.lower span.upper) }

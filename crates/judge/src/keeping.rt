@@ -17,6 +17,8 @@ pub(crate) fn meets_at<B: Bank>(bank: &B, k: u16, set: Set) -> bool
     bank.always(k, Span::new(set, set))
 }
 
+// Bank, rules and set stay parameters below: no way is asked, and a value of bank and rules alone would be no plainer than a program.
+
 // Whether an entry holds at a set.
 pub fn holds_at<B: Bank>(bank: &B, e: Entry, set: Set) -> bool
     ensures { result ≡ holds (B.meaning bank.now) (entry_of e) set }

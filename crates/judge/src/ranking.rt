@@ -25,6 +25,7 @@ impl<B: Bank> Program<'_, B> {
     {
         let mut ranks = Ranks::none();
         let mut reached = 0;
+        // over the numbers of the rounds, which stand in no list
         for round in 1..=64u8 {
             if reached == set {
                 return ranks;

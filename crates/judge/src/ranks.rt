@@ -9,7 +9,7 @@ use sets::set::{Set, contains, with};
 use std::error::Error;
 use std::fmt;
 
-// A rank for each decision, 0 for none.
+// A rank for each decision, 0 for none: an array, since there is one for each of the 64 and nothing here may allocate.
 #[derive(Clone, Copy, Debug, PartialEq, Eq)]
 pub struct Ranks {
     bytes: [u8; 64],

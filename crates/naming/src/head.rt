@@ -23,7 +23,7 @@ pub fn head_named(number: u8) -> Result<Head, Refusal>
     }
 }
 
-// The number by which a head is named.
+// The number by which a head is named; a function for the same reason.
 pub fn head_number(head: Head) -> u8
     ensures { result ≡ head_number (head_of head) }
 {

@@ -1,7 +1,8 @@
 // What "not" adds to an entry's number.
 pub const NOT: u16 = 0x8000;
 
-// An entry of a rule's body: a condition's number, with or without "not" before it.
+// An entry of a rule's body: a condition's number, with or without "not" before it. A flag and no enum, which would be no plainer: both kinds
+// have the one number, and whoever asks an entry asks for it first.
 #[derive(Clone, Copy, Debug, PartialEq, Eq)]
 pub struct Entry {
     pub condition: u16,

@@ -6,7 +6,7 @@ use Rattle.answer_sets.proofs.Each.{all_join}
 use Rattle.sets.specs.Walks.{sets_from}
 use Rattle.sets.specs.declared.span.Span.{Span}
 use Rattle.sets.specs.declared.walk.Walk.{Walk}
-use Rattle.search.specs.Ahead.{to_come}
+use Rattle.sets.specs.Coming.{to_come}
 
 -- the set at which a walk stands comes first, and then what its next step has to come
 pub to_come_step : {o : Option Walk} {w : Walk} (next : Option Walk) → o ≡ Some w

@@ -18,7 +18,8 @@ use Rattle.rows.specs.Listings.{Lists}
 use Rattle.rows.specs.declared.listing.Listing.{Listing}
 use Rattle.search.specs.Search.{Heads, candidates}
 use Rattle.search.specs.Gathering.{Gathered, Gathers}
-use Rattle.search.specs.Ahead.{to_come, Drawn, FirstBorne, NoneBorne}
+use Rattle.sets.specs.Coming.{to_come}
+use Rattle.search.specs.Ahead.{Drawn, FirstBorne, NoneBorne}
 use Rattle.search.proofs.Candidates.{in_candidates, sorted_candidates, borne_candidate}
 
 -- each set of the list is one of 64 decisions

@@ -2,17 +2,12 @@
 use Rattle.std.specs.Prelude.{◌≡◌, ℕ, ◌+◌, ◌^◌, ◌<◌, ◌≤◌, List, [], ◌∷◌, ◌++◌, length, Some, None, Option, MatchOption}
 use Rattle.std.specs.List.{AllByRecursion}
 use Rattle.sets.specs.Sets.{size}
-use Rattle.sets.specs.Walks.{sets_from}
+use Rattle.sets.specs.Coming.{to_come}
 use Rattle.sets.specs.declared.walk.Walk.{Walk}
 use Rattle.banks.specs.Meaning.{Meaning}
 use Rattle.answer_sets.specs.Rules.{Way, Rule, Borne}
 use Rattle.search.specs.declared.first.Stop.{Stop}
 use Rattle.search.specs.Search.{Heads, candidates}
-
--- the sets to come, from the one at which the walk stands; none where it has ended
-abbrev pub to_come : Option Walk → List ℕ
-to_come None = []
-to_come (Some w) = sets_from w.at w.span.lower w.span.upper
 
 -- the walk has the candidates to come, drawn from at most sixteen heads
 pub record Drawn (rules : List Rule) (start : ℕ) (walk : Option Walk) : Type 0 where

@@ -1,7 +1,8 @@
 ghost use Rattle.std.specs.Prelude.{◌≡◌, ◌+◌, ◌<◌, ◌≤◌, length, Decides};
 ghost use Rattle.answer_sets.specs.Rules.{Borne};
 ghost use Rattle.rules.specs.Shapes.{way_of, rules_of};
-ghost use Rattle.search.specs.Ahead.{to_come, Stops};
+ghost use Rattle.sets.specs.Coming.{to_come};
+ghost use Rattle.search.specs.Ahead.{Stops};
 
 use banks::bank::Bank;
 use judge::keeping::keeps;
@@ -32,6 +33,7 @@ fn is_borne<B: Bank>(program: &Program<B>, set: Set) -> bool
     program.rank_set(set).is_some()
 }
 
+// The walk is kept and stepped, and no iterator: the next search goes on where this one stopped, and is asked how many sets it tried.
 // Goes on to the first set that some ranks bear. A set is left at the first rule that it breaks; rounds are computed only of one that breaks none.
 pub(crate) fn first_borne<B: Bank>(program: &Program<B>, from: Option<Walk>) -> Stop
     requires { length (to_come from) ≤ 65536 }

@@ -48,6 +48,7 @@ fn report<B: Bank>(rt: &impl Print, bank: &B, decided: Set, possible: Set) -> io
     let made = Braces(span.lower());
     let left = Braces(span.upper());
     println!(rt; "decided {made}, possible {left}")?;
+    // over the numbers of the conditions, which stand in no list
     for k in 0..bank.count() {
         let says = standing_of(bank, k, span);
         println!(rt; "condition {k}: {says}")?;

@@ -1,7 +1,7 @@
 use Rattle.std.proofs.Common.{length}
 use Rattle.answer_sets.specs.Rules.{Borne}
 use Rattle.rules.specs.Shapes.{way_of, rules_of}
-use Rattle.search.specs.Ahead.{to_come}
+use Rattle.sets.specs.Coming.{to_come}
 use Rattle.search.proofs.Ahead.{Passed}
 use Rattle.search.proofs.first.first_borne.Given as goal
 

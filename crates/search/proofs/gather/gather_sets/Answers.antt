@@ -2,7 +2,8 @@ use Rattle.std.proofs.Common.{ℕ, ◌≤◌, Some, List, length, sym, refl, ap,
 use Rattle.std.proofs.lemmas.Option.{MatchOption-at_some, MatchOption-at_none}
 use Rattle.rows.proofs.Listings.{placing_none, placing_rest, placing_before, placing_put, placing_complete, placing_short}
 use Rattle.rules.specs.Shapes.{way_of, rules_of}
-use Rattle.search.specs.Ahead.{to_come, FirstBorne, NoneBorne}
+use Rattle.sets.specs.Coming.{to_come}
+use Rattle.search.specs.Ahead.{FirstBorne, NoneBorne}
 use Rattle.search.proofs.Candidates.{few_candidates}
 use Rattle.search.proofs.Gathering.{Small, borne_none, borne_first, small_rest, fewer_rest, small_candidates, gathers_of, ends_as}
 use Rattle.search.proofs.gather.gather_sets.Goals as goal

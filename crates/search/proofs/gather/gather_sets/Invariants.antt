@@ -1,7 +1,7 @@
 use Rattle.std.proofs.Common.{◌≡◌, ◌≤◌, length}
 use Rattle.rows.proofs.Listings.{Placing}
 use Rattle.rules.specs.Shapes.{way_of, rules_of}
-use Rattle.search.specs.Ahead.{to_come}
+use Rattle.sets.specs.Coming.{to_come}
 use Rattle.search.proofs.Gathering.{Small, borne_of}
 use Rattle.search.proofs.gather.gather_sets.Given as goal
 

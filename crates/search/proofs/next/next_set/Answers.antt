@@ -3,7 +3,8 @@ use Rattle.std.specs.List.{AllByRecursion}
 use Rattle.std.proofs.lemmas.Option.{MatchOption-at_some, MatchOption-at_none}
 use Rattle.answer_sets.specs.Rules.{Borne}
 use Rattle.rules.specs.Shapes.{way_of, rules_of}
-use Rattle.search.specs.Ahead.{to_come, FirstBorne, NoneBorne}
+use Rattle.sets.specs.Coming.{to_come}
+use Rattle.search.specs.Ahead.{FirstBorne, NoneBorne}
 use Rattle.search.proofs.Candidates.{few_candidates, lowest_answer, no_answer}
 use Rattle.search.proofs.next.next_set.Goals as goal
 
