@@ -1,5 +1,5 @@
 -- What a walk has ahead of it, and where a search in it stops.
-use Rattle.std.specs.Prelude.{◌≡◌, ℕ, ◌+◌, ◌^◌, ◌<◌, ◌≤◌, List, [], ◌∷◌, ◌++◌, length, Some, None, Option, MatchOption}
+use Rattle.std.specs.Prelude.{◌≡◌, ℕ, ◌+◌, ◌^◌, ◌<◌, ◌≤◌, List, ◌∷◌, ◌++◌, length, Option, MatchOption}
 use Rattle.std.specs.List.{AllByRecursion}
 use Rattle.sets.specs.Sets.{size}
 use Rattle.sets.specs.Coming.{to_come}
