@@ -2,8 +2,10 @@ ghost use Rattle.std.specs.Prelude.{◌≡◌, ◌+◌, ◌*◌, ◌<◌, ◌≤
 ghost use Rattle.sets.specs.Walks.{decisions};
 ghost use Rattle.answer_sets.specs.Rules.{rank};
 ghost use Rattle.rows.specs.Rows.{held};
-ghost use Rattle.rules.specs.Shapes.{entry_of, rule_of};
+ghost use Rattle.rules.specs.Bytes.{way_byte};
+ghost use Rattle.rules.specs.Shapes.{way_of, entry_of, rule_of};
 ghost use Rattle.book.specs.View.{page_of};
+ghost use Rattle.answer_sets.specs.Naming.{entry_number};
 ghost use Rattle.frames.specs.Bytes.{in_two, in_eight};
 ghost use Rattle.frames.specs.Frames.{spelled, a_header, a_trailer};
 ghost use Rattle.archive.specs.Text.{body_bytes, rule_frame, page_frame};
@@ -15,6 +17,7 @@ use naming::head::head_number;
 use rows::row::Row;
 use rules::entry::Entry;
 use rules::rule::Rule;
+use rules::way::Way;
 use sets::decisions::Decisions;
 use sets::set::Set;
 
@@ -23,6 +26,20 @@ fn two_bytes(n: u16) -> [u8; 2]
     ensures { result ≡ in_two n }
 {
     u16::to_be_bytes(n)
+}
+
+// The number of an entry in two bytes.
+fn entry_bytes(e: Entry) -> [u8; 2]
+    ensures { result ≡ in_two (entry_number (entry_of e)) }
+{
+    two_bytes(u16::from(e))
+}
+
+// The first two bytes of a page's frame.
+fn page_front(way: Way) -> [u8; 2]
+    ensures { result ≡ 3 ∷ way_byte (way_of way) ∷ [] }
+{
+    [3, u8::from(way)]
 }
 
 // A number in eight bytes.
@@ -66,7 +83,7 @@ fn add_body(line: &mut Line, body: &[Entry])
     ensures { held line.new ≡ held line.old ++ body_bytes (map entry_of body.now) }
 {
     for e in body {
-        add_all(line, &two_bytes(u16::from(*e)));
+        add_all(line, &entry_bytes(*e));
     }
 }
 
@@ -106,7 +123,7 @@ pub(crate) fn rule_bytes(rule: &Rule) -> Line
 pub(crate) fn page_bytes(page: &Page) -> Line
     ensures { held result ≡ spelled (page_frame (page_of [] page.now)) }
 {
-    let mut line = line_of(&[3, u8::from(page.way)]);
+    let mut line = line_of(&page_front(page.way));
     add_all(&mut line, &eight_bytes(page.set));
     add_ranks(&mut line, page.set, &page.ranks);
     line
