@@ -1,20 +1,21 @@
 -- A row of sets: its part near a span, and which sets of the span stand in it.
-use Rattle.std.proofs.Common.{◌≡◌, ℕ, ◌+◌, ◌-◌, ◌^◌, ◌<◌, ◌≤◌, Bool, true, false, not, ◌&&◌, eqb, List, [], ◌∷◌, length, get_or, take, drop, filter, Decides, Some, None, Option, MatchOption, sym, refl, ap, ◌∙◌, subst, ap₂, ⊎_elim, zero-le, arith}
-use Rattle.std.proofs.lemmas.Bool.{both_ways, cases_Bool, cases_lt, cases_order, and_parts, and_from, eq-eqb, eqb-true}
+use Rattle.std.proofs.Common.{◌≡◌, ℕ, ◌+◌, ◌-◌, ◌^◌, ◌<◌, ◌≤◌, ◌⊎◌, Bool, true, false, not, ◌&&◌, eqb, List, [], ◌∷◌, length, get_or, take, drop, filter, cond, leb, Decides, Some, None, Option, MatchOption, sym, refl, ap, ◌∙◌, subst, ap₂, ⊎_elim, zero-le, arith}
+use Rattle.std.proofs.lemmas.Bool.{both_ways, cases_Bool, cases_lt, cases_order, and_parts, and_from, eq-eqb, eqb-true, leb-false, le-leb, lt-leb}
 use Rattle.std.proofs.lemmas.List.Sorted.{IsNonDecreasingBy-from_default}
+use Rattle.std.proofs.lemmas.List.Sums.{take_while-cons}
 use Rattle.std.proofs.lemmas.List.{get_or-drop, get_or-take, length-drop, length-take-le}
 use Rattle.std.specs.List.Sorted.{IsNonDecreasingBy}
 use Rattle.std.specs.Bool.{MatchBool}
 use Rattle.std.specs.Iterator.{AlwaysYields, YieldsThen, ComparesItemsByEq}
-use Rattle.std.specs.List.{AllWithin, HoldsAt, AllZip}
+use Rattle.std.specs.List.{AllWithin, HoldsAt, AllZip, prefix_len}
 use Rattle.std.specs.Option.{IfSome}
 use Rattle.std.proofs.lemmas.Iterator.{YieldsList}
 use Rattle.sets.specs.Lists.{member, Ascends}
 use Rattle.sets.specs.Sets.{◌⊆◌, Between, inside}
 use Rattle.sets.specs.Walks.{sets_between}
-use Rattle.sets.proofs.Ascending.{member_place, member_at, member_kept, member_of_kept, ascends_apart, sorted_of, sorted_kept, sorted_ext}
+use Rattle.sets.proofs.Ascending.{Sorted, member_head, member_tail, member_cases, member-none, all_member, member_place, member_at, member_kept, member_of_kept, ascends_apart, sorted_of, ascends_of, sorted_kept, sorted_ext}
 use Rattle.sets.proofs.Listing.{between_listed}
-use Rattle.sets.proofs.Members.{same_test, decides_sub}
+use Rattle.sets.proofs.Members.{same_test, decides_sub, sub_le}
 use Rattle.listed.specs.Tables.{AllIn, NoneIn}
 
 -- ---- the part near a span
@@ -41,16 +42,49 @@ member_drop row i f below = same_test (member f (drop i row)) (member f row)
     (get_or-drop i row (p.0 - i) 0 ∙ ap (λ (n : ℕ). get_or row n 0) (omega arith) ∙ p.2))
     (cases_lt p.0 i))
 
--- and one below all that stands from place i on
-pub member_take : (row : List ℕ) (i f : ℕ) → i ≤ length row → ((j : ℕ) → i ≤ j → j < length row → f < get_or row j 0) → member f (take i row) ≡ member f row
-member_take row i f h above = same_test (member f (take i row)) (member f row)
-    (λ m. let p = member_place f (take i row) m in
-    let l : p.0 < i = omega (arith, p.1, length-take-le i row h) in
-    member_is f row p.0 (omega arith) (sym (get_or-take i row p.0 0 l) ∙ p.2))
-    (λ m. let p = member_place f row m in ⊎_elim
-    (λ (l : p.0 < i). member_is f (take i row) p.0 (omega (arith, length-take-le i row h)) (get_or-take i row p.0 0 l ∙ p.2))
-    (λ l. let a = above p.0 l p.1 in let e = p.2 in absurd (omega arith))
-    (cases_lt p.0 i))
+pub ascends_take : (n : ℕ) (row : List ℕ) → n ≤ length row → Ascends row → Ascends (take n row)
+ascends_take n row h asc i l =
+    let k : i + 1 < n = omega (arith, l, length-take-le n row h) in
+    let a = get_or-take n row i 0 (omega arith) in
+    let b = get_or-take n row (i + 1) 0 k in
+    let s = asc i (omega arith) in
+    subst (λ (y : ℕ). y < get_or (take n row) (i + 1) 0) (sym a) (subst (λ (y : ℕ). get_or row i 0 < y) (sym b) s)
+
+-- what comes from place i on is not below `low`, where i is the first such place of the front, and the front is the row or has one
+module _ (row : List ℕ) (asc : Ascends row) (low front i : ℕ) (bound : i ≤ front) (below : (j : ℕ) → j < i → get_or row j 0 < low)
+    (above : (j : ℕ) → i ≤ j → j < front → low ≤ get_or row j 0)
+    (reached : (front ≡ length row) ⊎ ((1 ≤ front) × (low ≤ get_or row (front - 1) 0))) where
+  first_from : i < length row → low ≤ get_or row i 0
+  first_from l = ⊎_elim (λ (m : i < front). above i (omega arith) m)
+      (λ m. ⊎_elim (λ (e : front ≡ length row). absurd (omega arith))
+      (λ r. let f : 1 ≤ front = r.0 in let low_is : low ≤ get_or row (front - 1) 0 = r.1 in let b = below (front - 1) (omega arith) in absurd (omega arith)) reached)
+      (cases_lt i front)
+
+  pub all_from : (f : ℕ) → member f (drop i row) ≡ true → low ≤ f
+  all_from f m =
+      let p = member_place f (drop i row) m in
+      let l : i + p.0 < length row = omega (arith, p.1, length-drop i row) in
+      let e : get_or row (i + p.0) 0 ≡ f = sym (get_or-drop i row p.0 0) ∙ p.2 in
+      let a = first_from (omega arith) in
+      subst (λ (y : ℕ). low ≤ y) e (⊎_elim
+      (λ (z : 0 < p.0). let k = ascends_apart row asc i (i + p.0) (omega arith) l in omega arith)
+      (λ z. subst (λ (n : ℕ). low ≤ get_or row n 0) (omega arith) a) (cases_lt 0 p.0))
+
+-- all of a row is not below `low` where its first set is not
+pub from_first : (low : ℕ) (row : List ℕ) → Sorted row → ((0 < length row) × (get_or row 0 0 < low) → ⊥) → (f : ℕ) → member f row ≡ true → low ≤ f
+from_first low [] s h f m = member-none f m
+from_first low (x ∷ xs) s h f m = ⊎_elim (λ (l : x < low). absurd (h (omega arith, l)))
+    (λ (k : low ≤ x). ⊎_elim (λ e. omega arith) (λ n. let l = all_member (λ y. x < y) xs s.0 f n in omega arith) (member_cases f x xs m))
+    (cases_lt x low)
+
+-- the lowest that can stand in an ascending row stands first, if it stands there
+pub stands_first : (low : ℕ) (near : List ℕ) → Sorted near → ((f : ℕ) → member f near ≡ true → low ≤ f) → member low near ≡ true
+    → (rest : List ℕ) × (near ≡ low ∷ rest)
+stands_first low [] s from m = member-none low m
+stands_first low (x ∷ xs) s from m = ⊎_elim
+    (λ e. (xs, ap (λ (y : ℕ). y ∷ xs) e))
+    (λ n. let l = all_member (λ y. x < y) xs s.0 low n in let k = from x (member_head x xs) in absurd (omega arith))
+    (member_cases low x xs m)
 
 -- whether a set is in a span, as a test
 abbrev pub within : ℕ → ℕ → ℕ → Bool
@@ -64,6 +98,32 @@ between_within lo up s b = and_from (inside lo s) (inside s up) ((decides_sub lo
 
 pub within_is : (lo up : ℕ) (b : Bool) (s : ℕ) → Decides b (Between lo up s) → b ≡ within lo up s
 within_is lo up b s d = same_test b (within lo up s) (λ e. between_within lo up s (d.0 e)) (λ e. d.1 (within_between lo up s e))
+
+-- ---- the sets up to one: of an ascending row, those at the front
+
+none_kept : (p : ℕ → Bool) (xs : List ℕ) → ((y : ℕ) → member y xs ≡ true → p y ≡ false) → filter p xs ≡ []
+none_kept p [] h = refl
+none_kept p (x ∷ xs) h = ap (λ b. cond b (x ∷ filter p xs) (filter p xs)) (h x (member_head x xs)) ∙ none_kept p xs (λ y m. h y (member_tail y x xs m))
+
+abbrev pub front : ℕ → List ℕ → List ℕ
+front up row = take (prefix_len (λ s. leb s up) row) row
+
+front_kept : (up : ℕ) (row : List ℕ) → Sorted row → front up row ≡ filter (λ s. leb s up) row
+front_kept up [] s = refl
+front_kept up (x ∷ xs) s = take_while-cons (λ y. leb y up) x xs ∙ step (leb x up) refl (front_kept up xs s.1)
+  where
+    step : (b : Bool) → leb x up ≡ b → front up xs ≡ filter (λ y. leb y up) xs
+        → cond b (x ∷ front up xs) [] ≡ cond b (x ∷ filter (λ y. leb y up) xs) (filter (λ y. leb y up) xs)
+    step true e h = ap (λ (ys : List ℕ). x ∷ ys) h
+    step false e h = sym (none_kept (λ y. leb y up) xs (λ y m. let l = all_member (λ z. x < z) xs s.0 y m in let k = leb-false x up e in lt-leb y up (omega arith)))
+
+pub ascends_front : (up : ℕ) (row : List ℕ) → Ascends row → Ascends (front up row)
+ascends_front up row asc = subst Ascends (sym (front_kept up row (sorted_of row asc))) (ascends_of _ (sorted_kept (λ s. leb s up) row (sorted_of row asc)))
+
+pub same_front : (lo up : ℕ) (row near : List ℕ) → Ascends near → ((f : ℕ) → Between lo up f → member f near ≡ member f row)
+    → (f : ℕ) → Between lo up f → member f (front up near) ≡ member f row
+same_front lo up row near asc same f b = ap (member f) (front_kept up near (sorted_of near asc)) ∙ same_test (member f (filter (λ s. leb s up) near)) (member f near)
+    (λ m. (member_of_kept (λ s. leb s up) f near m).0) (λ m. member_kept (λ s. leb s up) f near m (le-leb f up (sub_le f up b.1))) ∙ same f b
 
 -- ---- which sets of the span stand in the row, from its part near the span
 
