@@ -5,7 +5,6 @@ use Rattle.std.proofs.lemmas.Bool.Decides.{Decides-at}
 use Rattle.std.proofs.lemmas.Bool.{both_ways, cases_Bool, and_parts, and_from, and_left, and_right, or_cases, or_parts, not-true, not-false, cond_both, false_from_ne_true}
 use Rattle.measures.specs.Scales.{Scale, Laws, laid, Allowed, Total, Compared}
 use Rattle.sets.specs.Sets.{has, ◌∈◌, ◌∉◌, ◌⊆◌, ◌∪◌, ◌∖◌, single, Between}
-use Rattle.sets.specs.declared.span.Span.{Span}
 use Rattle.sets.proofs.Ascending.{Sorted}
 use Rattle.sets.proofs.Members.{sub_refl}
 use Rattle.weighed.specs.Totals.{chosen, within, Hits, Misses}
@@ -163,12 +162,10 @@ module _ {W T : Type 0} (s : Scale W T) where
       decided_left a n p = ((λ e. absurd (both_ways a n e)), (λ m. p.1 (misses_left m)))
 
 -- the same question, its parts given otherwise
-pub moved : {W T : Type 0} (s : Scale W T) {span span' : Span} {low low' high high' : W} {ds ds' : List ℕ} {ws ws' : List W} {t t' : T} (r : Bool)
-    → span' ≡ span → low' ≡ low → high' ≡ high → ds' ≡ ds → ws' ≡ ws → t' ≡ t
-    → Decides r (Misses s span'.lower span'.upper (s.bound low') (s.bound high') ds' ws' t') → Decides r (Misses s span.lower span.upper (s.bound low) (s.bound high) ds ws t)
-moved {W} {T} s r a b c d e f =
-    subst (λ (x : Span × W × W × List ℕ × List W × T). Decides r (Misses s x.0.lower x.0.upper (s.bound x.1) (s.bound x.2) x.3 x.4 x.5))
-    (λ i. (a i, b i, c i, d i, e i, f i))
+pub moved : {W T : Type 0} (s : Scale W T) (lo up : ℕ) (low high : T) {ds ds' : List ℕ} {ws ws' : List W} {t t' : T} (r : Bool)
+    → ds' ≡ ds → ws' ≡ ws → t' ≡ t → Decides r (Misses s lo up low high ds' ws' t') → Decides r (Misses s lo up low high ds ws t)
+moved {W} {T} s lo up low high r d e f =
+    subst (λ (x : List ℕ × List W × T). Decides r (Misses s lo up low high x.0 x.1 x.2)) (λ i. (d i, e i, f i))
 
 -- a test of one of two facts: where the first is known, and where it fails
 pub first_holds : {P Q : Type 0} (a : Bool) → a ≡ true → P → Decides a (P ⊎ Q)

@@ -82,7 +82,7 @@ impl<M: Measure> WeighedBank<'_, M> {
         ensures { let m = weighed M.scale self.now.conditions.now self.now.weights.now in MatchOption result (m.count ≤ k)
             (λ g. (g.span.lower ≡ span.lower ∩ m.domain k) × (g.span.upper ≡ span.upper ∩ m.domain k)
             × ((f : ℕ) → Between g.span.lower g.span.upper f
-            → m.family k f ≡ within M.scale (M.scale.bound g.low) (M.scale.bound g.high) (laid M.scale g.total (chosen (decisions g.domain) g.row.now f)))) }
+            → m.family k f ≡ within M.scale g.low g.high (laid M.scale M.scale.nothing (chosen (decisions g.domain) g.row.now f)))) }
     {
         let c = self.at(k)?;
         Some(Weighing::new(&c, self.weights, span))

@@ -1,10 +1,10 @@
-ghost use Rattle.std.specs.Prelude.{◌≡◌, ◌+◌, ◌-◌, ◌≤◌, true, not, ◌&&◌, ◌||◌, ◌⊎◌, [], ◌∷◌, length, Decides, MatchOption};
+ghost use Rattle.std.specs.Prelude.{◌≡◌, ◌+◌, ◌-◌, ◌≤◌, not, ◌&&◌, ◌||◌, length, Decides};
 ghost use Rattle.std.proofs.Props.{props};
-ghost use Rattle.measures.specs.Scales.{Allowed, Total};
+ghost use Rattle.measures.specs.Scales.{Allowed, Total, Compared};
 ghost use Rattle.sets.specs.Sets.{◌∩◌, size};
 ghost use Rattle.sets.specs.Walks.{decisions};
 ghost use Rattle.weighed.specs.Extremes.{toward, settled, extreme};
-ghost use Rattle.weighed.specs.Tables.{Sound, row};
+ghost use Rattle.weighed.specs.Tables.{Sound, row as row_of};
 ghost use Rattle.weighed.specs.Totals.{Hits, Misses};
 
 use crate::condition::WeighedCondition;
@@ -15,25 +15,23 @@ use sets::decisions::{Decisions, lowest};
 use sets::set::{Set, contains, without};
 use sets::span::Span;
 
-// What is asked of a condition: whether the sets of a span bring their totals between two bounds. `total` has the weights of the decisions
-// that are behind; those of `domain` are to come, with a weight each in `row`.
+// What is asked of a condition: whether the sets of a span bring their totals between two bounds, which are held as totals. The decisions
+// of `domain` have a weight each in `row`.
 #[derive(Drop)]
 pub(crate) struct Weighing<'a, M: Measure> {
     span: Span,
     domain: Set,
     row: &'a [M::Raw],
-    low: M::Raw,
-    high: M::Raw,
-    total: M,
+    low: M,
+    high: M,
     ghost few: { length row.now ≤ 12 },
     ghost allowed: { Allowed M.scale row.now } by { Prim.hlevel props },
-    ghost fair_low: { M.scale.fair low ≡ true },
-    ghost fair_high: { M.scale.fair high ≡ true },
-    ghost started: { ∥ Total M.scale (12 - length row.now) total ∥₁ },
+    ghost compared_low: { ∥ Compared M.scale low ∥₁ },
+    ghost compared_high: { ∥ Compared M.scale high ∥₁ },
 }
 
 impl<'a, M: Measure> Weighing<'a, M> {
-    // A condition of valid tables over a span, from nothing on.
+    // A condition of valid tables over a span.
     pub(crate) fn new(
         c: &WeighedCondition<M::Raw>,
         weights: &'a [M::Raw],
@@ -43,18 +41,16 @@ impl<'a, M: Measure> Weighing<'a, M> {
         ensures lower { result.span.lower ≡ span.lower ∩ c.now.domain }
         ensures upper { result.span.upper ≡ span.upper ∩ c.now.domain }
         ensures domain { result.domain ≡ c.now.domain }
-        ensures row { result.row.now ≡ row c.now weights.now }
-        ensures low { result.low ≡ c.now.low }
-        ensures high { result.high ≡ c.now.high }
-        ensures total { result.total ≡ M.scale.nothing }
+        ensures row { result.row.now ≡ row_of c.now weights.now }
+        ensures low { result.low ≡ M.scale.bound c.now.low }
+        ensures high { result.high ≡ M.scale.bound c.now.high }
     {
         Weighing {
             span: span.cut(c.domain),
             domain: c.domain,
             row: c.row_in(weights),
-            low: c.low,
-            high: c.high,
-            total: M::none(),
+            low: M::bound_of(c.low),
+            high: M::bound_of(c.high),
         }
     }
 
@@ -71,86 +67,79 @@ impl<'a, M: Measure> Weighing<'a, M> {
         t
     }
 
-    // The least or greatest total over the sets of the span.
-    fn furthest(&self, end: End) -> M
-        ensures { let g = self.now in result ≡ extreme M.scale (toward end M.scale) g.span.lower g.span.upper (decisions g.domain) g.row.now g.total }
+    // The least or greatest total over the sets of the span, from a total to start with, for the decisions of a domain with a weight each.
+    fn furthest_from(&self, end: End, domain: Set, row: &[M::Raw], start: M) -> M
+        ensures { let g = self.now in result ≡ extreme M.scale (toward end M.scale) g.span.lower g.span.upper (decisions domain) row.now start }
     {
-        let mut t = self.total;
-        for (d, w) in Decisions::of(self.domain).zip(self.row) {
+        let mut t = start;
+        for (d, w) in Decisions::of(domain).zip(row) {
             t = self.settle(end, d, t, *w);
         }
         t
     }
 
+    // The same for all decisions of the condition, from nothing on.
+    fn furthest(&self, end: End) -> M
+        ensures { let g = self.now in result ≡ extreme M.scale (toward end M.scale) g.span.lower g.span.upper (decisions g.domain) g.row.now M.scale.nothing }
+    {
+        self.furthest_from(end, self.domain, self.row, M::none())
+    }
+
     // Whether the least total is not below the lower bound, and the greatest not above the upper one.
     fn is_enclosed(&self) -> bool
-        ensures { let g = self.now in result ≡ (M.scale.le (M.scale.bound g.low) (extreme M.scale (toward End.Least M.scale) g.span.lower g.span.upper (decisions g.domain) g.row.now g.total)
-            && M.scale.le (extreme M.scale (toward End.Greatest M.scale) g.span.lower g.span.upper (decisions g.domain) g.row.now g.total) (M.scale.bound g.high)) }
+        ensures { let g = self.now in result ≡ (M.scale.le g.low (extreme M.scale (toward End.Least M.scale) g.span.lower g.span.upper (decisions g.domain) g.row.now M.scale.nothing)
+            && M.scale.le (extreme M.scale (toward End.Greatest M.scale) g.span.lower g.span.upper (decisions g.domain) g.row.now M.scale.nothing) g.high) }
     {
-        let low = M::bound_of(self.low);
-        let high = M::bound_of(self.high);
-        low.not_above(self.furthest(End::Least)) && self.furthest(End::Greatest).not_above(high)
+        self.low.not_above(self.furthest(End::Least))
+            && self.furthest(End::Greatest).not_above(self.high)
     }
 
     // Whether every set of the span brings the total between the bounds: the least and the greatest total tell.
     pub(crate) fn hits(&self) -> bool
-        ensures { let g = self.now in Decides result (Hits M.scale g.span.lower g.span.upper (M.scale.bound g.low) (M.scale.bound g.high) (decisions g.domain) g.row.now g.total) }
+        ensures { let g = self.now in Decides result (Hits M.scale g.span.lower g.span.upper g.low g.high (decisions g.domain) g.row.now M.scale.nothing) }
     {
         self.is_enclosed()
     }
 
-    // Whether the least total is above the upper bound, or the greatest below the lower one.
-    fn is_apart(&self) -> bool
-        ensures { let g = self.now in result ≡ (not (M.scale.le (extreme M.scale (toward End.Least M.scale) g.span.lower g.span.upper (decisions g.domain) g.row.now g.total) (M.scale.bound g.high))
-            || not (M.scale.le (M.scale.bound g.low) (extreme M.scale (toward End.Greatest M.scale) g.span.lower g.span.upper (decisions g.domain) g.row.now g.total))) }
+    // Whether the least total from t on is above the upper bound, or the greatest below the lower one.
+    fn is_apart(&self, domain: Set, row: &[M::Raw], t: M) -> bool
+        ensures { let g = self.now in result ≡ (not (M.scale.le (extreme M.scale (toward End.Least M.scale) g.span.lower g.span.upper (decisions domain) row.now t) g.high)
+            || not (M.scale.le g.low (extreme M.scale (toward End.Greatest M.scale) g.span.lower g.span.upper (decisions domain) row.now t))) }
     {
-        let low = M::bound_of(self.low);
-        let high = M::bound_of(self.high);
-        !self.furthest(End::Least).not_above(high) || !low.not_above(self.furthest(End::Greatest))
-    }
-
-    // The first decision, and the weighing of the others with its weight left off and with it laid on; none where nothing is to come.
-    fn split(&self) -> Option<(Decision, Weighing<'a, M>, Weighing<'a, M>)>
-        ensures { let g = self.now in MatchOption result
-            ((decisions g.domain ≡ []) ⊎ (length g.row.now ≡ 0))
-            (λ p. (decisions g.domain ≡ p.0.place ∷ decisions p.1.domain)
-            × ((w : M.Raw) × (g.row.now ≡ w ∷ p.1.row.now) × (p.2.total ≡ M.scale.lay g.total w))
-            × (p.1.total ≡ g.total) × (p.2.domain ≡ p.1.domain) × (p.2.row.now ≡ p.1.row.now)
-            × (p.1.span ≡ g.span) × (p.1.low ≡ g.low) × (p.1.high ≡ g.high)
-            × (p.2.span ≡ g.span) × (p.2.low ≡ g.low) × (p.2.high ≡ g.high)) }
-    {
-        let d = lowest(self.domain)?;
-        let (w, row) = self.row.split_first()?;
-        let left = Weighing {
-            span: self.span,
-            domain: without(self.domain, d),
-            row,
-            low: self.low,
-            high: self.high,
-            total: self.total,
-        };
-        let laid = Weighing {
-            span: left.span,
-            domain: left.domain,
-            row,
-            low: left.low,
-            high: left.high,
-            total: self.total.with(*w),
-        };
-        Some((d, left, laid))
-    }
-
-    // Whether no set of the span brings the total between the bounds. A branch whose least and greatest totals can't meet them is cut off.
-    pub(crate) fn misses(&self) -> bool
-        ensures { let g = self.now in Decides result (Misses M.scale g.span.lower g.span.upper (M.scale.bound g.low) (M.scale.bound g.high) (decisions g.domain) g.row.now g.total) }
-    {
-        if self.is_apart() {
+        let least = self.furthest_from(End::Least, domain, row, t);
+        if !least.not_above(self.high) {
             return true;
         }
-        let Some((d, left, laid)) = self.split() else {
+        let greatest = self.furthest_from(End::Greatest, domain, row, t);
+        !self.low.not_above(greatest)
+    }
+
+    // Whether no set of the span brings the total t between the bounds: t has the weights of the decisions that are behind, and those of
+    // the domain are to come, with a weight each in the row. A branch whose least and greatest totals can't meet the bounds is cut off.
+    fn misses_from(&self, domain: Set, row: &[M::Raw], t: M) -> bool
+        requires few { length row.now ≤ 12 }
+        requires allowed { Allowed M.scale row.now }
+        requires started { Total M.scale (12 - length row.now) t }
+        ensures { let g = self.now in Decides result (Misses M.scale g.span.lower g.span.upper g.low g.high (decisions domain) row.now t) }
+    {
+        if self.is_apart(domain, row, t) {
+            return true;
+        }
+        let Some(d) = lowest(domain) else {
             return false;
         };
-        (contains(self.span.lower(), d) || left.misses())
-            && (!contains(self.span.upper(), d) || laid.misses())
+        let Some((w, tail)) = row.split_first() else {
+            return false;
+        };
+        let rest = without(domain, d);
+        (contains(self.span.lower(), d) || self.misses_from(rest, tail, t))
+            && (!contains(self.span.upper(), d) || self.misses_from(rest, tail, t.with(*w)))
+    }
+
+    // Whether no set of the span brings the total between the bounds.
+    pub(crate) fn misses(&self) -> bool
+        ensures { let g = self.now in Decides result (Misses M.scale g.span.lower g.span.upper g.low g.high (decisions g.domain) g.row.now M.scale.nothing) }
+    {
+        self.misses_from(self.domain, self.row, M::none())
     }
 }

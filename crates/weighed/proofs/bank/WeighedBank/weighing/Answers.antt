@@ -19,5 +19,5 @@ returns g c =
       (λ f i.
           pick_get b.conditions.now c.args.k (λ y. balanced s y b.weights.now f) _ x e
           ∙ balanced_is s x b.weights.now f (sub_trans f (span.upper ∩ x.domain) x.domain (subst (λ (n : ℕ). f ⊆ n) is.upper i.1) (and_second span.upper x.domain))
-          ∙ (λ j. within s (s.bound (sym is.low j)) (s.bound (sym is.high j)) (laid s (sym is.total j) (chosen (decisions (sym is.domain j)) (sym is.row j) f)))),
+          ∙ (λ j. within s (sym is.low j) (sym is.high j) (laid s s.nothing (chosen (decisions (sym is.domain j)) (sym is.row j) f)))),
     )

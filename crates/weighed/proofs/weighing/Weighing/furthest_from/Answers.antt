@@ -3,7 +3,7 @@ use Rattle.std.specs.Slice.Iter.{iter_rest}
 use Rattle.sets.specs.Walks.{decisions}
 use Rattle.weighed.specs.Extremes.{toward}
 use Rattle.weighed.proofs.Carrying.{extreme_over}
-use Rattle.weighed.proofs.weighing.Weighing.furthest.Goals as goal
+use Rattle.weighed.proofs.weighing.Weighing.furthest_from.Goals as goal
 
 pub returns : goal.returns
 returns g c =
