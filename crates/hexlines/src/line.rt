@@ -23,12 +23,11 @@ fn front(text: &[u8]) -> Line
 {
     let mut line = Row::new(0);
     let mut rest = text;
-    // as often as a line has bytes, and no chunks of two: what follows the digits is still to be read
-    for _ in 0..MAX_BYTES {
-        let Some((b, more)) = split_byte(rest) else {
+    // a full line takes no more; and no chunks of two: what follows the digits is still to be read
+    while let Some((b, more)) = split_byte(rest) {
+        let Ok(()) = line.push(b) else {
             return line;
         };
-        let _ = line.push(b);
         rest = more;
     }
     line
