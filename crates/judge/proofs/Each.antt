@@ -4,24 +4,14 @@ use Rattle.std.specs.List.{fold}
 use Rattle.std.proofs.lemmas.List.Elements.{filter-append}
 use Rattle.std.proofs.lemmas.List.Sums.{fold-append}
 use Rattle.std.proofs.lemmas.Bool.{and_from, and_left, and_right}
-use Rattle.std.proofs.lemmas.Bool.Decides.{Decides-below_and, nat_tests}
+use Rattle.std.proofs.lemmas.Bool.Decides.{nat_tests}
 use Rattle.std.proofs.lemmas.Grind.{common_steps}
-use Rattle.sets.specs.Sets.{has, ◌∈◌, ◌∪◌, single, collect}
+use Rattle.sets.specs.Sets.{has, ◌∪◌, single, collect}
 use Rattle.sets.specs.Lists.{member}
 use Rattle.sets.specs.Walks.{decisions, decisions_below}
 use Rattle.sets.proofs.Members.{same_test}
 use Rattle.sets.proofs.Collecting.{collect_in, collect_out}
 use Rattle.sets.proofs.Listing.{decisions_listed}
-
--- ---- all sixty-four
-
-every : ℕ → Bool
-every zero = true
-every (suc n) = has 18446744073709551615 n && every n
-
-pub in_all : (d : ℕ) → d < 64 → d ∈ 18446744073709551615
-unfolding every has
-in_all = (Decides-below_and (has 18446744073709551615) (λ d. d ∈ 18446744073709551615) every (λ d. ((λ h. h), (λ h. h))) refl (λ n. refl) 64).0 refl
 
 -- ---- what a filter and a fold collect
 

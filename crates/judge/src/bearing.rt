@@ -1,5 +1,5 @@
-ghost use Rattle.std.specs.Prelude.{◌≡◌, ℕ, Decides};
-ghost use Rattle.sets.specs.Sets.{◌∈◌};
+ghost use Rattle.std.specs.Prelude.{◌≡◌, ℕ, ◌≤◌, Decides};
+ghost use Rattle.sets.specs.Sets.{◌∈◌, ◌∉◌};
 ghost use Rattle.answer_sets.specs.Rules.{Any, Gives, Ranked, Bears, below};
 ghost use Rattle.rules.specs.Shapes.{way_of, rule_of, rules_of};
 
@@ -11,14 +11,21 @@ use banks::bank::Bank;
 use rules::rule::Rule;
 use sets::decision::Decision;
 use sets::decisions::Decisions;
-use sets::set::Set;
+use sets::set::{Set, contains_place};
 use sets::span::Span;
+
+// Whether a decision, by its number, has a rank that is not zero exactly where the set has it.
+fn fits(set: Set, d: u8, rank: u8) -> bool
+    ensures { Decides result ((d ∉ set → rank ≡ 0) × (d ∈ set → (1 ≤ rank) × (rank ≤ 255))) }
+{
+    contains_place(set, d) == (rank != 0)
+}
 
 // Whether the ranks are 64 bytes, zero outside the set and not zero inside it.
 pub fn ranked(ranks: &[u8], set: Set) -> bool
     ensures { Decides result (Ranked set ranks.now) }
 {
-    Ranks::try_from(ranks).is_ok_and(|ranks| ranks.fits(set))
+    ranks.len() == 64 && (0..64u8).zip(ranks).all(|(d, rank)| fits(set, d, *rank))
 }
 
 impl<B: Bank> Program<'_, B> {
@@ -59,9 +66,12 @@ impl<B: Bank> Program<'_, B> {
     pub fn bears(&self, set: Set, ranks: &[u8]) -> bool
         ensures { Decides result (Bears (B.meaning self.now.bank.now) (way_of self.now.way) (rules_of self.now.rules.now) set ranks.now) }
     {
+        if !ranked(ranks, set) {
+            return false;
+        }
         let Ok(ranks) = Ranks::try_from(ranks) else {
             return false;
         };
-        ranks.fits(set) && keeps_all(self.bank, self.rules, set) && self.supported(set, &ranks)
+        keeps_all(self.bank, self.rules, set) && self.supported(set, &ranks)
     }
 }

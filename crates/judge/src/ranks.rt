@@ -1,11 +1,11 @@
 ghost use Rattle.std.specs.Prelude.{◌≡◌, ℕ, ◌<◌, ◌≤◌, ◌&&◌, length, replicate, if◌then◌else◌, Decides, ◌≢◌, nat_eq, nat_lt, slice_index, slice_set};
 ghost use Rattle.std.specs.Bool.{MatchBool};
-ghost use Rattle.sets.specs.Sets.{has, ◌∈◌, ◌∉◌};
-ghost use Rattle.answer_sets.specs.Rules.{Ranked, rank, below};
+ghost use Rattle.sets.specs.Sets.{has, ◌∈◌};
+ghost use Rattle.answer_sets.specs.Rules.{rank, below};
 
 use sets::decision::Decision;
 use sets::decisions::Decisions;
-use sets::set::{Set, contains, with};
+use sets::set::{Set, with};
 use std::error::Error;
 use std::fmt;
 
@@ -85,22 +85,6 @@ impl Ranks {
         ensures { MatchBool result ((1 ≤ rank self.now.bytes d.place) × (rank self.now.bytes d.place ≤ 255)) (rank self.now.bytes d.place ≡ 0) }
     {
         self.of(d) != 0
-    }
-
-    // Whether a decision has a rank exactly where the set has it.
-    fn fits_at(&self, set: Set, d: Decision) -> bool
-        ensures { Decides result
-            ((d.place ∉ set → rank self.now.bytes d.place ≡ 0)
-            × (d.place ∈ set → (1 ≤ rank self.now.bytes d.place) × (rank self.now.bytes d.place ≤ 255))) }
-    {
-        contains(set, d) == self.is_ranked(d)
-    }
-
-    // Whether the ranks are zero outside the set and not zero inside it.
-    pub(crate) fn fits(&self, set: Set) -> bool
-        ensures { Decides result (Ranked set self.now.bytes) }
-    {
-        Decisions::of(u64::MAX).all(|d| self.fits_at(set, d))
     }
 
     // Whether each decision of the set has a rank.

@@ -1,4 +1,4 @@
-ghost use Rattle.std.specs.Prelude.{◌≡◌, ◌<◌, length, Decides, MatchResult};
+ghost use Rattle.std.specs.Prelude.{◌≡◌, ◌≢◌, ◌<◌, length, Decides, MatchResult};
 ghost use Rattle.std.specs.List.{AllByRecursion};
 ghost use Rattle.answer_sets.specs.Rules.{Keeps, Ranked, Bears, Borne};
 ghost use Rattle.answer_sets.specs.Rounds.{Rounds};
@@ -22,15 +22,24 @@ use refusals::refusal::Refusal;
 use rules::way::Way;
 use sets::set::Set;
 
-// These bytes as ranks, if they are one for each decision, zero exactly outside the set.
-fn fitting(bytes: &[u8], set: Set) -> Result<Ranks, Refusal>
+// That these bytes are one for each decision, zero exactly outside the set.
+fn fitting(bytes: &[u8], set: Set) -> Result<(), Refusal>
     ensures { MatchResult result
-        (λ ranks. (ranks.bytes ≡ bytes.now) × Ranked set bytes.now)
+        (λ _. Ranked set bytes.now)
         (λ e. (e ≡ BadRanks) × (Ranked set bytes.now → ⊥)) }
 {
     if !ranked(bytes, set) {
         return Err(Refusal::BadRanks);
     }
+    Ok(())
+}
+
+// These bytes as ranks, if they are one for each decision.
+fn copied(bytes: &[u8]) -> Result<Ranks, Refusal>
+    ensures { MatchResult result
+        (λ ranks. ranks.bytes ≡ bytes.now)
+        (λ e. (e ≡ BadRanks) × (length bytes.now ≢ 64)) }
+{
     Ranks::try_from(bytes).map_err(|_| Refusal::BadRanks)
 }
 
@@ -115,12 +124,12 @@ impl<B: Bank> Ledger<B> {
             (PagesWith (view self.now) (way_of way) set kept.bytes))
             (Refuses (B.meaning self.now.bank) (view self.now) (lodge (way_of way) set ranks.now)) }
     {
-        let kept = fitting(ranks, set)?;
+        fitting(ranks, set)?;
         self.pageable(set)?;
         if !self.bears(way, set, ranks) {
             return Err(Refusal::Unborne);
         }
-        Ok(kept)
+        copied(ranks)
     }
 
     // Puts a page last that rests on all the rules, and answers its number.
