@@ -49,9 +49,8 @@ fn rule_with(head: Head, body: &[u16]) -> Result<Rule, Refusal>
         (λ x. (length body.now ≤ 8) × (x.head ≡ head) × (map entry_of (held x.body) ≡ map entry_named body.now))
         (λ e. Says e 12 [] × (8 < length body.now)) }
 {
-    entries_named(body)
-        .and_then(|entries| Rule::new(head, entries.as_slice()))
-        .ok_or(Refusal::LongBody)
+    let entries = entries_named(body).ok_or(Refusal::LongBody)?;
+    Ok(Rule::of(head, entries))
 }
 
 // The rule that a head's number and the numbers of a body name, over a bank. What is refused here, enter refuses on every book.

@@ -32,6 +32,13 @@ impl Rule {
         Some(Rule { head, body })
     }
 
+    // A rule with this head and body.
+    pub fn of(head: Head, body: Body) -> Rule
+        ensures { (result.head ≡ head) × (result.body ≡ body) }
+    {
+        Rule { head, body }
+    }
+
     // The rule with no head and no entries, which every set breaks.
     pub fn empty() -> Rule
         ensures { (result.head ≡ None) × (held result.body ≡ []) }
