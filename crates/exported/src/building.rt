@@ -1,4 +1,4 @@
-ghost use Rattle.std.specs.Prelude.{◌≡◌, [], ◌∷◌, ◌++◌, MatchResult, ◌≢◌};
+ghost use Rattle.std.specs.Prelude.{◌≡◌, ◌<◌, [], ◌∷◌, ◌++◌, length, MatchResult, ◌≢◌};
 ghost use Rattle.refusals.specs.Numbers.{number, Says};
 ghost use Rattle.rules.specs.Shapes.{way_of, rule_of, rules_of};
 ghost use Rattle.rows.specs.Rows.{held};
@@ -27,8 +27,8 @@ pub(crate) fn way_named(way: u8) -> Result<Way, Refusal>
 // Puts one item more at the end of a list; where the list is full, this refusal.
 fn keep<T: Copy, const N: usize>(list: &mut Row<T, N>, x: T, full: Refusal) -> Result<(), Refusal>
     ensures { MatchResult result
-        (λ _. held list.new ≡ held list.old ++ x ∷ [])
-        (λ e. (e ≡ full) × (held list.new ≡ held list.old)) }
+        (λ _. (length (held list.old) < N) × (held list.new ≡ held list.old ++ x ∷ []))
+        (λ e. (length (held list.old) ≡ N) × (e ≡ full) × (held list.new ≡ held list.old)) }
 {
     list.push(x).map_err(|_| full)
 }
